@@ -1,0 +1,3 @@
+pub mod Inject
+pub mod Law
+pub mod Steps

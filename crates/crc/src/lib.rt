@@ -1,0 +1,4 @@
+// The two cyclic checks of the link.
+pub mod link;
+mod polynomial;
+pub mod unit;
