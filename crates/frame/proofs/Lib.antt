@@ -1,0 +1,13 @@
+pub mod Change
+pub mod Copies
+pub mod Counts
+pub mod Flips
+pub mod Links
+pub mod Lowest
+pub mod Placed
+pub mod Protocols
+pub mod Readings
+pub mod Seals
+pub mod Unpacked
+pub mod Views
+pub mod Window

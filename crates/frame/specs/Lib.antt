@@ -1,0 +1,12 @@
+pub mod Fault
+pub mod Form
+pub mod Frame
+pub mod Lowest
+pub mod Mark
+pub mod Packet
+pub mod Reading
+pub mod Reserved
+pub mod Trailer
+pub mod Units
+pub mod Unpacking
+pub mod Word
