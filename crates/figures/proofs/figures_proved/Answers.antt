@@ -1,0 +1,9 @@
+use mathlib.Core.Path.{refl}
+use Rattle.crc.specs.Check.{bit-step, byte-step, link-check}
+use Rattle.frame.specs.Units.{counted, unit-check}
+use Rattle.frame.specs.Form.{protocol-byte, reply-check, link-byte, sealed, reply-frame}
+use Rattle.figures.proofs.figures_proved.Needs as need
+
+pub returns : need.returns
+unfolding bit-step byte-step counted unit-check link-check protocol-byte reply-check link-byte sealed reply-frame
+returns c = record { hold = (refl, (refl, (refl, (refl, tt)))); count = refl }
