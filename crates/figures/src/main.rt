@@ -10,9 +10,9 @@ use figure::Figure;
 use figure::FigureDisplay;
 use frame::frame::Frame;
 use frame::packet::Packet;
-use frame::reply::Reply;
-use frame::reply::ReplyKind;
 use std::error::AnyError;
+use terms::reply::Reply;
+use terms::reply::ReplyKind;
 
 // How many figures of the rules are proved.
 pub fn figures_proved() -> usize

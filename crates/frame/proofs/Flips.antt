@@ -17,12 +17,12 @@ use Rattle.crc.specs.Check.{run, link-check}
 use Rattle.frame.specs.Units.{unit-check}
 use Rattle.frame.specs.Form.{form-mark, protocol-allows, kind-byte, reply-check, link-byte, sealed, reply-frame}
 use Rattle.frame.specs.Frame.{FrameM, Grouped, byte-at, mark-at, flipped}
-use Rattle.frame.specs.Mark.{mark-number}
+use Rattle.terms.specs.Mark.{mark-number}
 use Rattle.frame.specs.Reading.{Good, packet, reply, Broken}
 use Rattle.frame.specs.declared.frame.Kind.the-variants.{Protocol}
-use Rattle.frame.specs.declared.mark.Mark.{Mark}
-use Rattle.frame.specs.declared.mark.Mark.the-variants.{Zero, Data}
-use Rattle.frame.specs.declared.reply.Reply.{Reply}
+use Rattle.terms.specs.declared.mark.Mark.{Mark}
+use Rattle.terms.specs.declared.mark.Mark.the-variants.{Zero, Data}
+use Rattle.terms.specs.declared.reply.Reply.{Reply}
 use Rattle.frame.proofs.Change.{part-out, part-in, seen, uncounted}
 use Rattle.crc.proofs.Inject.{xor-inj-r, one-byte}
 use Rattle.frame.proofs.Links.{LinkForm, reply-byte, reply-long, reply-form}

@@ -10,13 +10,13 @@ use Rattle.std.proofs.shelf.Tests.{cases-lt, cases-eq, eqb-true, eq-eqb}
 use Rattle.std.proofs.shelf.Ways.{tells}
 use Rattle.frame.specs.Form.{form-mark, link-allows, kind-byte, reply-check, link-byte, framed, reply-frame}
 use Rattle.frame.specs.Frame.{FrameM, Grouped, byte-at, mark-at}
-use Rattle.frame.specs.Mark.{mark-number}
+use Rattle.terms.specs.Mark.{mark-number}
 use Rattle.frame.specs.Reading.{reply-of}
 use Rattle.frame.specs.declared.frame.Kind.the-variants.{Link}
-use Rattle.frame.specs.declared.mark.Mark.the-variants.{Zero, Control}
-use Rattle.frame.specs.declared.reply.Reply.{Reply}
-use Rattle.frame.specs.declared.reply.ReplyKind.{ReplyKind}
-use Rattle.frame.specs.declared.reply.ReplyKind.the-variants.{Ack, Nak}
+use Rattle.terms.specs.declared.mark.Mark.the-variants.{Zero, Control}
+use Rattle.terms.specs.declared.reply.Reply.{Reply}
+use Rattle.terms.specs.declared.reply.ReplyKind.{ReplyKind}
+use Rattle.terms.specs.declared.reply.ReplyKind.the-variants.{Ack, Nak}
 use Rattle.frame.proofs.Placed.{framed-long, framed-marks-long, framed-byte, framed-mark, is-framed}
 use Rattle.frame.proofs.Protocols.{same-mark}
 

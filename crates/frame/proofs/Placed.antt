@@ -14,8 +14,8 @@ use Rattle.frame.specs.Form.{form-mark, framed}
 use Rattle.frame.specs.Frame.{FrameM, byte-at, parted}
 use Rattle.frame.specs.Reserved.{reserved, cleared}
 use Rattle.frame.specs.declared.frame.Kind.{Kind}
-use Rattle.frame.specs.declared.mark.Mark.{Mark}
-use Rattle.frame.specs.declared.mark.Mark.the-variants.{Zero}
+use Rattle.terms.specs.declared.mark.Mark.{Mark}
+use Rattle.terms.specs.declared.mark.Mark.the-variants.{Zero}
 
 -- equal at every place
 pub same-places : (f h : ℕ → ℕ) (n : ℕ) → ((k : ℕ) → k < n → f k ≡ h k) → map f (counting 0 n) ≡ map h (counting 0 n)

@@ -14,12 +14,12 @@ use Rattle.std.proofs.shelf.Ways.{tells}
 use Rattle.frame.specs.Units.{unit-check}
 use Rattle.frame.specs.Form.{form-mark, protocol-allows, protocol-byte, framed, sealed}
 use Rattle.frame.specs.Frame.{FrameM, Grouped, byte-at, mark-at}
-use Rattle.frame.specs.Mark.{mark-number}
+use Rattle.terms.specs.Mark.{mark-number}
 use Rattle.frame.specs.Packet.{one-of-five, IsPacket}
 use Rattle.frame.specs.Reserved.{reserved, cleared}
 use Rattle.frame.specs.declared.frame.Kind.the-variants.{Protocol}
-use Rattle.frame.specs.declared.mark.Mark.{Mark}
-use Rattle.frame.specs.declared.mark.Mark.the-variants.{Zero, Data, Control, Three}
+use Rattle.terms.specs.declared.mark.Mark.{Mark}
+use Rattle.terms.specs.declared.mark.Mark.the-variants.{Zero, Data, Control, Three}
 use Rattle.frame.proofs.Counts.{units-same}
 use Rattle.frame.proofs.Placed.{cleared-long, cleared-free, cleared-same, cleared-twice, framed-long, framed-marks-long, framed-byte, framed-mark, is-framed}
 

@@ -19,20 +19,20 @@ use Rattle.frame.specs.Units.{unit-check}
 use Rattle.frame.specs.Form.{kind-of, form-mark, allows, sealed, reply-frame, reply-check, protocol-allows, link-allows}
 use Rattle.frame.specs.Frame.{FrameM, Grouped, byte-at, mark-at}
 use Rattle.frame.specs.Lowest.{lowest-wrong}
-use Rattle.frame.specs.Mark.{mark-number}
+use Rattle.terms.specs.Mark.{mark-number}
 use Rattle.frame.specs.Packet.{IsPacket}
 use Rattle.frame.specs.Reading.{refused-at, then, sync-right, mark-right, byte-right, unit-right, lowest-sync, lowest-mark, lowest-byte, lowest-unit, sync-checked, form-checked, units-checked, reply-of, link-right, reading-as, reading, Good, packet, reply, Broken, Says}
 use Rattle.frame.specs.Reserved.{cleared}
 use Rattle.frame.specs.Word.{word-bytes}
-use Rattle.frame.specs.declared.content.Content.{Content}
-use Rattle.frame.specs.declared.content.Content.the-variants as content
-use Rattle.frame.specs.declared.fault.FrameFault.{FrameFault}
-use Rattle.frame.specs.declared.fault.FrameFault.the-variants.{Sync, Form, Check}
+use Rattle.terms.specs.declared.content.Content.{Content}
+use Rattle.terms.specs.declared.content.Content.the-variants as content
+use Rattle.terms.specs.declared.fault.FrameFault.{FrameFault}
+use Rattle.terms.specs.declared.fault.FrameFault.the-variants.{Sync, Form, Check}
 use Rattle.frame.specs.declared.frame.Kind.{Kind}
 use Rattle.frame.specs.declared.frame.Kind.the-variants.{Protocol, Link}
-use Rattle.frame.specs.declared.mark.Mark.{Mark}
-use Rattle.frame.specs.declared.mark.Mark.the-variants.{Zero, Data, Control}
-use Rattle.frame.specs.declared.reply.Reply.{Reply}
+use Rattle.terms.specs.declared.mark.Mark.{Mark}
+use Rattle.terms.specs.declared.mark.Mark.the-variants.{Zero, Data, Control}
+use Rattle.terms.specs.declared.reply.Reply.{Reply}
 use Rattle.frame.proofs.Links.{LinkForm, reply-long, reply-marks-long, reply-named, reply-form, form-reply}
 use Rattle.frame.proofs.Lowest.{none-wrong, all-right}
 use mathlib.Core.List.{List, [], _∷_, map}

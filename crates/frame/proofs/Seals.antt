@@ -17,7 +17,7 @@ use Rattle.frame.specs.Frame.{FrameM, parted}
 use Rattle.frame.specs.Packet.{IsPacket}
 use Rattle.frame.specs.Trailer.{Trailed}
 use Rattle.frame.specs.declared.frame.Kind.the-variants.{Protocol}
-use Rattle.frame.specs.declared.mark.Mark.{Mark}
+use Rattle.terms.specs.declared.mark.Mark.{Mark}
 use Rattle.frame.proofs.Copies.{front-is}
 use Rattle.frame.proofs.Protocols.{sized, byte-start, id-there, byte-free, byte-unit, byte-end}
 use Rattle.frame.proofs.Views.{front-set}

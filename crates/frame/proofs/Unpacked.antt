@@ -12,8 +12,8 @@ use Rattle.frame.specs.Packet.{IsPacket}
 use Rattle.frame.specs.Reading.{reading}
 use Rattle.frame.specs.Reserved.{cleared}
 use Rattle.frame.specs.Unpacking.{copying, copied-into, unpacking-read, unpacked-read, once-copied, Unpacks}
-use Rattle.frame.specs.declared.content.Content.the-variants as content
-use Rattle.frame.specs.declared.fault.HostFault.{HostFault}
+use Rattle.terms.specs.declared.content.Content.the-variants as content
+use Rattle.terms.specs.declared.fault.HostFault.{HostFault}
 use Rattle.frame.proofs.Protocols.{sealed-long, sealed-cleared}
 use Rattle.frame.proofs.Readings.{reads-sealed}
 

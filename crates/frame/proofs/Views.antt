@@ -12,8 +12,8 @@ use Rattle.frame.specs.Packet.{IsPacket, packet-bytes}
 use Rattle.frame.specs.declared.packet.Packet.{Packet}
 use Rattle.frame.proofs.Protocols.{one-of-five-is}
 use Rattle.frame.specs.declared.frame.Frame.{Frame}
-use Rattle.frame.specs.declared.mark.Mark.{Mark}
-use Rattle.frame.specs.declared.mark.Mark.the-variants.{Zero}
+use Rattle.terms.specs.declared.mark.Mark.{Mark}
+use Rattle.terms.specs.declared.mark.Mark.the-variants.{Zero}
 
 -- the front of the room, one item of it changed
 pub front-set : {X : Type 0} (n : ℕ) (xs : List X) (k : ℕ) (x : X) → k < n → take n (set xs k x) ≡ set (take n xs) k x

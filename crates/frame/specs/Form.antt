@@ -10,11 +10,11 @@ use Rattle.frame.specs.Units.{unit-check}
 use Rattle.frame.specs.Frame.{FrameM, byte-at, mark-at}
 use Rattle.frame.specs.declared.frame.Kind.{Kind}
 use Rattle.frame.specs.declared.frame.Kind.the-variants.{Protocol, Link}
-use Rattle.frame.specs.declared.mark.Mark.{Mark}
-use Rattle.frame.specs.declared.mark.Mark.the-variants.{Data, Control}
-use Rattle.frame.specs.declared.reply.Reply.{Reply}
-use Rattle.frame.specs.declared.reply.ReplyKind.{ReplyKind}
-use Rattle.frame.specs.declared.reply.ReplyKind.the-variants.{Ack, Nak}
+use Rattle.terms.specs.declared.mark.Mark.{Mark}
+use Rattle.terms.specs.declared.mark.Mark.the-variants.{Data, Control}
+use Rattle.terms.specs.declared.reply.Reply.{Reply}
+use Rattle.terms.specs.declared.reply.ReplyKind.{ReplyKind}
+use Rattle.terms.specs.declared.reply.ReplyKind.the-variants.{Ack, Nak}
 
 -- link kind exactly if character 0 has mark 2 and place 0 is 0x5C
 abbrev pub kind-of : FrameM → Kind

@@ -8,13 +8,13 @@ use lib.Dec.{eqb}
 use lib.ListN.{length, take, getD, set}
 use Rattle.std.specs.declared.option.Option.{Option}
 use Rattle.std.specs.declared.option.Option.the-variants.{Some, None}
-use Rattle.frame.specs.Mark.{mark-number}
+use Rattle.terms.specs.Mark.{mark-number}
 use Rattle.frame.specs.Packet.{one-of-five}
-use Rattle.frame.specs.declared.fault.ShapeFault.{ShapeFault}
-use Rattle.frame.specs.declared.fault.ShapeFault.the-variants.{Bytes, Marks}
+use Rattle.terms.specs.declared.fault.ShapeFault.{ShapeFault}
+use Rattle.terms.specs.declared.fault.ShapeFault.the-variants.{Bytes, Marks}
 use Rattle.frame.specs.declared.frame.Frame.{Frame}
-use Rattle.frame.specs.declared.mark.Mark.{Mark}
-use Rattle.frame.specs.declared.mark.Mark.the-variants.{Zero}
+use Rattle.terms.specs.declared.mark.Mark.{Mark}
+use Rattle.terms.specs.declared.mark.Mark.the-variants.{Zero}
 
 pub record FrameM : Type 0 where
   pub bytes : List ℕ

@@ -1,8 +1,6 @@
-pub mod Fault
 pub mod Form
 pub mod Frame
 pub mod Lowest
-pub mod Mark
 pub mod Packet
 pub mod Reading
 pub mod Reserved

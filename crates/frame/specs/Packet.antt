@@ -9,8 +9,8 @@ use Rattle.std.specs.declared.option.Option.{Option}
 use Rattle.std.specs.declared.option.Option.the-variants.{Some, None}
 use Rattle.frame.specs.Lowest.{lowest-wrong}
 use Rattle.frame.specs.Reserved.{reserved, cleared}
-use Rattle.frame.specs.declared.fault.PacketFault.{PacketFault}
-use Rattle.frame.specs.declared.fault.PacketFault.the-variants.{Length, Reserved}
+use Rattle.terms.specs.declared.fault.PacketFault.{PacketFault}
+use Rattle.terms.specs.declared.fault.PacketFault.the-variants.{Length, Reserved}
 use Rattle.frame.specs.declared.packet.Packet.{Packet}
 
 -- the five lengths: 128, 256, 384, 512 and 640

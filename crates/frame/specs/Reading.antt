@@ -14,17 +14,17 @@ use Rattle.frame.specs.Units.{unit-check}
 use Rattle.frame.specs.Form.{kind-of, form-mark, allows, sealed, reply-frame, reply-check}
 use Rattle.frame.specs.Frame.{FrameM, byte-at, mark-at}
 use Rattle.frame.specs.Lowest.{lowest-wrong}
-use Rattle.frame.specs.Mark.{mark-number}
+use Rattle.terms.specs.Mark.{mark-number}
 use Rattle.frame.specs.Packet.{IsPacket}
 use Rattle.frame.specs.Reserved.{cleared}
-use Rattle.frame.specs.declared.content.Content.{Content}
-use Rattle.frame.specs.declared.content.Content.the-variants as content
-use Rattle.frame.specs.declared.fault.FrameFault.{FrameFault}
-use Rattle.frame.specs.declared.fault.FrameFault.the-variants.{Sync, Form, Check}
+use Rattle.terms.specs.declared.content.Content.{Content}
+use Rattle.terms.specs.declared.content.Content.the-variants as content
+use Rattle.terms.specs.declared.fault.FrameFault.{FrameFault}
+use Rattle.terms.specs.declared.fault.FrameFault.the-variants.{Sync, Form, Check}
 use Rattle.frame.specs.declared.frame.Kind.{Kind}
 use Rattle.frame.specs.declared.frame.Kind.the-variants.{Protocol, Link}
-use Rattle.frame.specs.declared.reply.Reply.{Reply}
-use Rattle.frame.specs.declared.reply.ReplyKind.the-variants.{Ack, Nak}
+use Rattle.terms.specs.declared.reply.Reply.{Reply}
+use Rattle.terms.specs.declared.reply.ReplyKind.the-variants.{Ack, Nak}
 
 -- the refusal at the lowest wrong place, where there is one
 abbrev pub refused-at : (ℕ → FrameFault) → Option ℕ → Result (Unit {0}) FrameFault

@@ -10,12 +10,12 @@ use Rattle.std.specs.declared.result.Result.the-variants.{Ok, Err}
 use Rattle.frame.specs.Frame.{FrameM}
 use Rattle.frame.specs.Reading.{reading}
 use Rattle.frame.specs.Reserved.{cleared}
-use Rattle.frame.specs.declared.content.Content.{Content}
-use Rattle.frame.specs.declared.content.Content.the-variants as content
-use Rattle.frame.specs.declared.fault.FrameFault.{FrameFault}
-use Rattle.frame.specs.declared.fault.HostFault.{HostFault}
-use Rattle.frame.specs.declared.fault.UnpackFault.{UnpackFault}
-use Rattle.frame.specs.declared.fault.UnpackFault.the-variants as unpack
+use Rattle.terms.specs.declared.content.Content.{Content}
+use Rattle.terms.specs.declared.content.Content.the-variants as content
+use Rattle.terms.specs.declared.fault.FrameFault.{FrameFault}
+use Rattle.terms.specs.declared.fault.HostFault.{HostFault}
+use Rattle.terms.specs.declared.fault.UnpackFault.{UnpackFault}
+use Rattle.terms.specs.declared.fault.UnpackFault.the-variants as unpack
 
 -- copying out the bytes of a frame, into a buffer of so many bytes: their number, or that the buffer is shorter
 abbrev pub copying : FrameM → ℕ → Result ℕ HostFault

@@ -9,7 +9,7 @@ mod parts;
 mod protocol;
 mod read;
 
-use crate::mark::Mark;
+use terms::mark::Mark;
 
 #[derive(Clone, Copy)]
 pub struct Frame {

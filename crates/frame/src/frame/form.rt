@@ -7,12 +7,12 @@ ghost use Rattle.frame.specs.Form.{form-mark, allows};
 ghost use Rattle.frame.specs.Frame.{view};
 ghost use Rattle.frame.specs.Reading.{lowest-sync, lowest-mark, lowest-byte, sync-checked, form-checked};
 ghost use Rattle.std.specs.Iters.{counting};
-use crate::fault::FrameFault;
 use crate::frame::Frame;
 use crate::frame::Kind;
 use crate::frame::link;
 use crate::frame::protocol;
-use crate::mark::Mark;
+use terms::fault::FrameFault;
+use terms::mark::Mark;
 
 // The mark of a character among so many.
 fn form_mark(kind: Kind, count: usize, character: usize) -> Mark

@@ -5,16 +5,16 @@ ghost use Rattle.frame.specs.Frame.{view};
 ghost use Rattle.frame.specs.Reading.{reading, reading-as};
 ghost use Rattle.frame.specs.Word.{Words};
 ghost use Rattle.std.specs.declared.result.Result.the-variants.{Ok};
-ghost use Rattle.frame.specs.declared.content.Content.the-variants.{Reply as ReplyContent};
+ghost use Rattle.terms.specs.declared.content.Content.the-variants.{Reply as ReplyContent};
 ghost use Rattle.frame.specs.declared.frame.Kind.the-variants.{Link as LinkKind};
-use crate::content::Content;
-use crate::fault::FrameFault;
 use crate::frame::Frame;
 use crate::frame::Kind;
 use crate::frame::form::form_marks;
-use crate::reply::Reply;
-use crate::reply::ReplyKind;
 use crc::link::link_check;
+use terms::content::Content;
+use terms::fault::FrameFault;
+use terms::reply::Reply;
+use terms::reply::ReplyKind;
 
 const LEAD: u8 = 0x5C;
 

@@ -7,12 +7,12 @@ ghost use Rattle.frame.specs.Frame.{view, flipped, marked, parts-fault, parted
 ghost use Rattle.frame.specs.Reading.{Good, Broken};
 ghost use Rattle.std.specs.Results.{Cases};
 ghost use Rattle.std.specs.declared.option.Option.the-variants.{Some, None};
-use crate::fault::ShapeFault;
 use crate::frame::Frame;
 use crate::frame::Kind;
-use crate::mark::Mark;
 use crate::room::copy_front;
 use crate::room::is_whole;
+use terms::fault::ShapeFault;
+use terms::mark::Mark;
 
 impl Frame {
     // The frame of these bytes and marks, good or broken.

@@ -10,15 +10,15 @@ ghost use Rattle.frame.specs.Trailer.{Trailed};
 ghost use Rattle.frame.specs.Unpacking.{Unpacks};
 ghost use Rattle.std.specs.declared.result.Result.the-variants.{Ok};
 ghost use Rattle.frame.specs.declared.frame.Kind.the-variants.{Protocol as ProtocolKind};
-ghost use Rattle.frame.specs.declared.content.Content.the-variants.{Packet as PacketContent};
-use crate::content::Content;
-use crate::fault::FrameFault;
+ghost use Rattle.terms.specs.declared.content.Content.the-variants.{Packet as PacketContent};
 use crate::frame::Frame;
 use crate::frame::Kind;
 use crate::frame::form::form_marks;
 use crate::packet::Packet;
 use crate::room::copy_front;
 use crate::units::unit_checks;
+use terms::content::Content;
+use terms::fault::FrameFault;
 
 const START: u8 = 0xFB;
 

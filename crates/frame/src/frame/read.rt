@@ -4,15 +4,15 @@ ghost use lib.ListN.{length};
 ghost use Rattle.frame.specs.Frame.{view};
 ghost use Rattle.frame.specs.Reading.{reading, Says};
 ghost use Rattle.frame.specs.Unpacking.{copying, copied-into, unpacking, unpacked-into};
-use crate::content::Content;
-use crate::fault::FrameFault;
-use crate::fault::HostFault;
-use crate::fault::UnpackFault;
-use crate::fault::UnpackFromFrame;
-use crate::fault::UnpackFromHost;
 use crate::frame::Frame;
 use crate::frame::Kind;
 use crate::room::is_reserved;
+use terms::content::Content;
+use terms::fault::FrameFault;
+use terms::fault::HostFault;
+use terms::fault::UnpackFault;
+use terms::fault::UnpackFromFrame;
+use terms::fault::UnpackFromHost;
 
 impl Frame {
     // What the frame holds, or why it is not good. Only the two forms with right checks are ever good.

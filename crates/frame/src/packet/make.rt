@@ -6,12 +6,12 @@ ghost use Rattle.frame.specs.Packet.{one-of-five, packet-bytes, lowest-reserve
 ghost use Rattle.frame.specs.Reserved.{cleared};
 ghost use Rattle.std.specs.Results.{Cases};
 ghost use Rattle.std.specs.declared.option.Option.the-variants.{Some, None};
-ghost use Rattle.frame.specs.declared.fault.PacketFault.the-variants.{Length};
-use crate::fault::PacketFault;
+ghost use Rattle.terms.specs.declared.fault.PacketFault.the-variants.{Length};
 use crate::packet::Packet;
 use crate::room::copy_front;
 use crate::room::is_reserved;
 use crate::room::is_whole;
+use terms::fault::PacketFault;
 
 // The lowest reserved place that is not zero.
 fn lowest_reserved(bytes: &[u8]) -> Option<usize>

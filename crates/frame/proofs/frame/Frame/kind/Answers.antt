@@ -2,7 +2,7 @@ use mathlib.Core.Path.{_≡_, sym, ap, _∙_}
 use native.Mathlib.Omega.{arith}
 use Rattle.std.proofs.shelf.Ways.{tells}
 use Rattle.frame.specs.Frame.{view, byte-at, mark-at}
-use Rattle.frame.specs.Mark.{mark-number}
+use Rattle.terms.specs.Mark.{mark-number}
 use Rattle.frame.proofs.Views.{view-byte, view-mark}
 use Rattle.frame.proofs.frame.Frame.kind.Needs as need
 use Rattle.frame.proofs.frame.Frame.kind.Needs.{else-number-eq2·by·then-number-eq2·else-self-eq92, else-number-eq2·by·else-number-eq2}

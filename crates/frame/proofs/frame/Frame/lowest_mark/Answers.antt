@@ -6,9 +6,9 @@ use lib.ListN.{length, getD}
 use Rattle.std.proofs.shelf.Tests.{eq-eqb, ne-eqb}
 use Rattle.frame.specs.Form.{form-mark}
 use Rattle.frame.specs.Frame.{view, mark-at}
-use Rattle.frame.specs.Mark.{mark-number}
+use Rattle.terms.specs.Mark.{mark-number}
 use Rattle.frame.specs.Reading.{mark-right}
-use Rattle.frame.specs.declared.mark.Mark.the-variants.{Zero}
+use Rattle.terms.specs.declared.mark.Mark.the-variants.{Zero}
 use Rattle.frame.proofs.Lowest.{found, missed}
 use Rattle.frame.proofs.frame.Frame.lowest_mark.Needs as need
 

@@ -4,9 +4,9 @@ use native.Mathlib.Omega.{arith}
 use lib.ListN.{length, getD}
 use Rattle.std.proofs.shelf.Ways.{tells}
 use Rattle.frame.specs.Frame.{view, mark-at}
-use Rattle.frame.specs.Mark.{mark-number}
+use Rattle.terms.specs.Mark.{mark-number}
 use Rattle.frame.specs.Reading.{sync-right}
-use Rattle.frame.specs.declared.mark.Mark.the-variants.{Zero}
+use Rattle.terms.specs.declared.mark.Mark.the-variants.{Zero}
 use Rattle.frame.proofs.Lowest.{found, missed}
 use Rattle.frame.proofs.frame.Frame.lowest_sync.Needs as need
 

@@ -13,14 +13,14 @@ use Rattle.frame.specs.Frame.{FrameM, view, byte-at}
 use Rattle.frame.specs.Form.{reply-check}
 use Rattle.frame.specs.Reading.{form-checked, reply-of, reading-as}
 use Rattle.frame.specs.Word.{word-bytes}
-use Rattle.frame.specs.declared.content.Content.the-variants.{Reply as ReplyContent}
-use Rattle.frame.specs.declared.fault.FrameFault.the-variants.{Check}
+use Rattle.terms.specs.declared.content.Content.the-variants.{Reply as ReplyContent}
+use Rattle.terms.specs.declared.fault.FrameFault.the-variants.{Check}
 use Rattle.frame.specs.declared.frame.Frame.{Frame}
 use Rattle.frame.specs.declared.frame.link.Word.{Word}
 use Rattle.frame.specs.declared.frame.Kind.the-variants.{Link}
-use Rattle.frame.specs.declared.reply.Reply.{Reply}
-use Rattle.frame.specs.declared.reply.ReplyKind.{ReplyKind}
-use Rattle.frame.specs.declared.reply.ReplyKind.the-variants.{Ack, Nak}
+use Rattle.terms.specs.declared.reply.Reply.{Reply}
+use Rattle.terms.specs.declared.reply.ReplyKind.{ReplyKind}
+use Rattle.terms.specs.declared.reply.ReplyKind.the-variants.{Ack, Nak}
 use Rattle.std.proofs.shelf.Lists.{take-take, drop-take}
 use Rattle.frame.proofs.Readings.{link-answer, word-there, right-is}
 use Rattle.frame.proofs.Views.{grouped}

@@ -2,7 +2,7 @@ use mathlib.Core.Path.{sym, ap₂, _∙_}
 use native.Mathlib.Omega.{arith}
 use Rattle.std.specs.declared.result.Result.the-variants.{Ok}
 use Rattle.frame.specs.Frame.{view}
-use Rattle.frame.specs.declared.content.Content.the-variants.{Packet}
+use Rattle.terms.specs.declared.content.Content.the-variants.{Packet}
 use Rattle.frame.proofs.Readings.{protocol-answer}
 use Rattle.frame.proofs.Views.{grouped, view-byte}
 use Rattle.frame.proofs.frame.Frame.read_protocol.Needs as need

@@ -6,7 +6,7 @@ use Rattle.std.proofs.shelf.Counted.{fill-by-all}
 use Rattle.std.proofs.shelf.Edits.{fill-by-more}
 use Rattle.std.proofs.shelf.Lists.{getD-take, length-take}
 use Rattle.frame.specs.Form.{form-mark}
-use Rattle.frame.specs.declared.mark.Mark.the-variants.{Zero}
+use Rattle.terms.specs.declared.mark.Mark.the-variants.{Zero}
 use Rattle.frame.proofs.frame.form.form_marks.Needs as need
 
 pub loop-character-again : need.loop-character-again

@@ -2,7 +2,7 @@ use Prim.Native.Nat.{ℕ, _<_}
 use mathlib.Core.Path.{_≡_}
 use lib.ListN.{length, getD}
 use Rattle.frame.specs.Form.{form-mark}
-use Rattle.frame.specs.declared.mark.Mark.the-variants.{Zero}
+use Rattle.terms.specs.declared.mark.Mark.the-variants.{Zero}
 use Rattle.frame.proofs.frame.form.form_marks.Given as given
 
 abbrev pub Inv-loop-character : given.InvT-loop-character

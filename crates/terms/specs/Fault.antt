@@ -1,15 +1,15 @@
 -- The number, layer and place of each refusal.
 use Prim.Native.Nat.{ℕ}
-use Rattle.frame.specs.declared.fault.Refusal.{Refusal}
-use Rattle.frame.specs.declared.fault.Layer.{Layer}
-use Rattle.frame.specs.declared.fault.Layer.the-variants as layer
-use Rattle.frame.specs.declared.fault.PacketFault.{PacketFault}
-use Rattle.frame.specs.declared.fault.PacketFault.the-variants.{Length, Reserved}
-use Rattle.frame.specs.declared.fault.FrameFault.{FrameFault}
-use Rattle.frame.specs.declared.fault.FrameFault.the-variants.{Sync, Form, Check}
-use Rattle.frame.specs.declared.fault.HostFault.{HostFault}
-use Rattle.frame.specs.declared.fault.UnpackFault.{UnpackFault}
-use Rattle.frame.specs.declared.fault.UnpackFault.the-variants as unpack
+use Rattle.terms.specs.declared.fault.Refusal.{Refusal}
+use Rattle.terms.specs.declared.fault.Layer.{Layer}
+use Rattle.terms.specs.declared.fault.Layer.the-variants as layer
+use Rattle.terms.specs.declared.fault.PacketFault.{PacketFault}
+use Rattle.terms.specs.declared.fault.PacketFault.the-variants.{Length, Reserved}
+use Rattle.terms.specs.declared.fault.FrameFault.{FrameFault}
+use Rattle.terms.specs.declared.fault.FrameFault.the-variants.{Sync, Form, Check}
+use Rattle.terms.specs.declared.fault.HostFault.{HostFault}
+use Rattle.terms.specs.declared.fault.UnpackFault.{UnpackFault}
+use Rattle.terms.specs.declared.fault.UnpackFault.the-variants as unpack
 
 abbrev pub panel : ℕ → Layer → ℕ → Refusal
 panel n l at = record { number = n; layer = l; place = at }

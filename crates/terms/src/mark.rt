@@ -1,6 +1,6 @@
 // The two-bit mark of a character.
 ghost use mathlib.Core.Path.{_≡_};
-ghost use Rattle.frame.specs.Mark.{mark-number, mark-of};
+ghost use Rattle.terms.specs.Mark.{mark-number, mark-of};
 
 // 1 is data and 2 control; 0 and 3 are sync errors.
 #[derive(Clone, Copy, PartialEq, Eq, Debug)]

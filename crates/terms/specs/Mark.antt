@@ -4,8 +4,8 @@ use mathlib.Core.Bool.{cond}
 use lib.Dec.{eqb}
 use Rattle.std.specs.declared.option.Option.{Option}
 use Rattle.std.specs.declared.option.Option.the-variants.{Some, None}
-use Rattle.frame.specs.declared.mark.Mark.{Mark}
-use Rattle.frame.specs.declared.mark.Mark.the-variants.{Zero, Data, Control, Three}
+use Rattle.terms.specs.declared.mark.Mark.{Mark}
+use Rattle.terms.specs.declared.mark.Mark.the-variants.{Zero, Data, Control, Three}
 
 -- 1 is data and 2 control; 0 and 3 are sync errors
 abbrev pub mark-number : Mark → ℕ

@@ -1,8 +1,8 @@
 // What is refused, and what a panel shows of it.
 ghost use mathlib.Core.Path.{_≡_};
-ghost use Rattle.frame.specs.Fault.{packet-refusal, frame-refusal, host-refusal, unpack-refusal};
-ghost use Rattle.frame.specs.declared.fault.Refusal.{Refusal as Panel};
-ghost use Rattle.frame.specs.declared.fault.UnpackFault.the-variants.{Frame as ByFrame, Host as ByHost};
+ghost use Rattle.terms.specs.Fault.{packet-refusal, frame-refusal, host-refusal, unpack-refusal};
+ghost use Rattle.terms.specs.declared.fault.Refusal.{Refusal as Panel};
+ghost use Rattle.terms.specs.declared.fault.UnpackFault.the-variants.{Frame as ByFrame, Host as ByHost};
 
 // The part of the box that refuses.
 #[derive(Clone, Copy, PartialEq, Eq, Debug)]
