@@ -2,14 +2,13 @@
 use mathlib.Core.Path.{_≡_, refl, sym, ap, ap₂, _∙_, subst}
 use mathlib.Core.Bool.{Bool, true, false, cond}
 use mathlib.Core.Logic.{_⊎_, inl, inr}
-use mathlib.Core.List.{List, [], _∷_, map}
+use mathlib.Core.List.{List}
 use Prim.Native.Nat.{ℕ, _+_, _-_, _*_, _/_, _%_, _<_, _≤_}
 use native.Mathlib.Nat.{div-add-mod'}
 use native.Mathlib.Omega.{arith}
 use lib.Bits.{bitXor, xor-lt, xor-zero-r}
 use lib.Dec.{eqb, leb, ltb, lit<}
 use lib.ListN.{length, getD, set, take, drop}
-use Rattle.std.proofs.shelf.Counted.{fill-by-all}
 use Rattle.std.proofs.shelf.Lists.{length-set, length-take, length-drop, getD-set-same, getD-set-other, getD-take, getD-drop}
 use Rattle.std.proofs.shelf.Tests.{cases-lt, cases-eq}
 use Rattle.std.proofs.shelf.Ways.{tells}
@@ -25,7 +24,7 @@ use Rattle.terms.specs.declared.mark.Mark.the-variants.{Zero, Data}
 use Rattle.terms.specs.declared.reply.Reply.{Reply}
 use Rattle.frame.proofs.Change.{part-out, part-in, seen, uncounted}
 use Rattle.crc.proofs.Inject.{xor-inj-r, one-byte}
-use Rattle.frame.proofs.Links.{LinkForm, reply-byte, reply-long, reply-form}
+use Rattle.frame.proofs.Links.{LinkForm, reply-byte, reply-long, reply-form, word-is, byte-low, byte-high}
 use Rattle.frame.proofs.Protocols.{ProtocolForm, sealed-form, allowed-start, allowed-end}
 
 -- the byte at k replaced by y, where the length is that of whole groups
@@ -91,27 +90,11 @@ module _ (xs : List ℕ) (k y : ℕ) (whole : length xs % 128 ≡ 0) (some : 128
       ]
     ]
 
--- the six bytes that the link check runs over, as a reply frame has them
-word-is : (r : Reply) (xs : List ℕ) → length xs ≡ 128 → ((k : ℕ) → k < 128 → getD xs k 0 ≡ link-byte r k) → link-check (take 6 (drop 8 xs)) ≡ reply-check r
-unfolding link-byte reply-check
-word-is r xs l e =
-    ap link-check
-    (fill-by-all (λ i. link-byte r (8 + i)) (take 6 (drop 8 xs)) 6 0 (simp (length-take, length-drop) (omega arith))
-    (λ i h. getD-take 6 (drop 8 xs) i 0 h ∙ getD-drop 8 xs i 0 ∙ e (8 + i) (omega arith)))
-
 -- outside those six places a reply frame holds what is fixed, or the check
 outside-word : (r s : Reply) (k : ℕ) → (k < 8) ⊎ (14 ≤ k) → reply-check r ≡ reply-check s → link-byte r k ≡ link-byte s k
 unfolding link-byte
 outside-word r s k (inl h) e = grind (arith, tells)
 outside-word r s k (inr h) e = grind (arith, tells)
-
-low-of : (r : Reply) → link-byte r 14 ≡ reply-check r % 256
-unfolding link-byte
-low-of r = refl
-
-high-of : (r : Reply) → link-byte r 15 ≡ reply-check r / 256
-unfolding link-byte
-high-of r = refl
 
 same-check : (a b : ℕ) → a % 256 ≡ b % 256 → a / 256 ≡ b / 256 → a ≡ b
 same-check a b low high = sym (div-add-mod' a 256) ∙ ap₂ (λ q m. q * 256 + m) high low ∙ div-add-mod' b 256
@@ -120,10 +103,10 @@ same-check a b low high = sym (div-add-mod' a 256) ∙ ap₂ (λ q m. q * 256 + 
 module _ (r s : Reply) (xs : List ℕ) (k y : ℕ) (long : length xs ≡ 128) (in′ : k < 128) (was : getD xs k 0 < 256) (fits : y < 256)
     (old : (i : ℕ) → i < 128 → getD xs i 0 ≡ link-byte r i) (new : (i : ℕ) → i < 128 → getD (set xs k y) i 0 ≡ link-byte s i) where
   word-old : link-check (take 6 (drop 8 xs)) ≡ reply-check r
-  word-old = word-is r xs long old
+  word-old = word-is r xs long (λ i _ h. old i (omega arith))
 
   word-new : link-check (take 6 (drop 8 (set xs k y))) ≡ reply-check s
-  word-new = word-is s (set xs k y) (length-set xs k y ∙ long) new
+  word-new = word-is s (set xs k y) (length-set xs k y ∙ long) (λ i _ h. new i (omega arith))
 
   there : getD (set xs k y) k 0 ≡ y
   there = getD-set-same xs k y 0 (omega arith)
@@ -134,8 +117,8 @@ module _ (r s : Reply) (xs : List ℕ) (k y : ℕ) (long : length xs ≡ 128) (i
   in-word : 8 ≤ k → k < 14 → y ≡ getD xs k 0
   unfolding link-check
   in-word l h =
-      let low : reply-check s % 256 ≡ reply-check r % 256 = sym (low-of s) ∙ elsewhere 14 (lit< tt) (λ e. omega arith) ∙ low-of r in
-      let high : reply-check s / 256 ≡ reply-check r / 256 = sym (high-of s) ∙ elsewhere 15 (lit< tt) (λ e. omega arith) ∙ high-of r in
+      let low : reply-check s % 256 ≡ reply-check r % 256 = sym (byte-low s) ∙ elsewhere 14 (lit< tt) (λ e. omega arith) ∙ byte-low r in
+      let high : reply-check s / 256 ≡ reply-check r / 256 = sym (byte-high s) ∙ elsewhere 15 (lit< tt) (λ e. omega arith) ∙ byte-high r in
       let e : run 16 0x8005 0 (take 6 (drop 8 (set xs k y))) ≡ run 16 0x8005 0 (take 6 (drop 8 xs)) = word-new ∙ same-check (reply-check s) (reply-check r) low high ∙ sym word-old in
       let w : List ℕ = take 6 (drop 8 xs) in
       let at : getD w (k - 8) 0 ≡ getD xs k 0 = getD-take 6 (drop 8 xs) (k - 8) 0 (omega arith) ∙ getD-drop 8 xs (k - 8) 0 ∙ ap (λ i. getD xs i 0) (let z : 8 + (k - 8) ≡ k = omega arith in z) in

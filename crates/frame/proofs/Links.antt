@@ -5,13 +5,17 @@ use mathlib.Core.Logic.{_⊎_, inl, inr}
 use Prim.Native.Nat.{ℕ, _+_, _-_, _*_, _/_, _%_, _<_, _≤_}
 use native.Mathlib.Omega.{arith}
 use lib.Dec.{eqb, leb, ltb, lit<}
-use lib.ListN.{length, getD}
+use lib.ListN.{length, getD, take, drop}
+use mathlib.Core.List.{List}
+use Rattle.std.proofs.shelf.Counted.{fill-by-all}
+use Rattle.std.proofs.shelf.Lists.{length-take, length-drop, getD-take, getD-drop}
+use Rattle.crc.specs.Check.{link-check}
 use Rattle.std.proofs.shelf.Tests.{cases-lt, cases-eq, eqb-true, eq-eqb}
 use Rattle.std.proofs.shelf.Ways.{tells}
 use Rattle.frame.specs.Form.{form-mark, link-allows, kind-byte, reply-check, link-byte, framed, reply-frame}
 use Rattle.frame.specs.Frame.{FrameM, Grouped, byte-at, mark-at}
 use Rattle.terms.specs.Mark.{mark-number}
-use Rattle.frame.specs.Reading.{reply-of}
+use Rattle.frame.specs.Reading.{reply-of, word-check}
 use Rattle.frame.specs.declared.frame.Kind.the-variants.{Link}
 use Rattle.terms.specs.declared.mark.Mark.the-variants.{Zero, Control}
 use Rattle.terms.specs.declared.reply.Reply.{Reply}
@@ -55,13 +59,21 @@ byte-id : (r : Reply) → link-byte r 10 ≡ r .id
 unfolding link-byte
 byte-id r = refl
 
-byte-low : (r : Reply) → link-byte r 14 ≡ reply-check r % 256
+pub byte-low : (r : Reply) → link-byte r 14 ≡ reply-check r % 256
 unfolding link-byte
 byte-low r = refl
 
-byte-high : (r : Reply) → link-byte r 15 ≡ reply-check r / 256
+pub byte-high : (r : Reply) → link-byte r 15 ≡ reply-check r / 256
 unfolding link-byte
 byte-high r = refl
+
+-- the six bytes that the link check runs over, as a reply frame has them
+pub word-is : (r : Reply) (xs : List ℕ) → length xs ≡ 128 → ((k : ℕ) → 8 ≤ k → k < 14 → getD xs k 0 ≡ link-byte r k) → link-check (take 6 (drop 8 xs)) ≡ reply-check r
+unfolding link-byte reply-check
+word-is r xs l e =
+    ap link-check
+    (fill-by-all (λ i. link-byte r (8 + i)) (take 6 (drop 8 xs)) 6 0 (simp (length-take, length-drop) (omega arith))
+    (λ i h. getD-take 6 (drop 8 xs) i 0 h ∙ getD-drop 8 xs i 0 ∙ e (8 + i) (omega arith) (omega arith)))
 
 -- the frame of a reply has the form, and names the reply
 module _ (r : Reply) where
@@ -102,6 +114,14 @@ allowed-there : (r : Reply) (k b : ℕ) → link-allows k b ≡ true
     → b ≡ link-byte r k
 unfolding link-allows link-byte
 allowed-there r k b e kind id low high = grind (arith, tells)
+
+-- where the fixed bytes are right, the check of the frame's own bytes is that of the reply that it names
+pub word-of : (f : FrameM) → length (f .bytes) ≡ 128 → ((k : ℕ) → k < 128 → link-allows k (byte-at f k) ≡ true) → word-check f ≡ reply-check (reply-of f)
+word-of f one allowed =
+    word-is (reply-of f) (f .bytes) one
+    (λ k l h. allowed-there (reply-of f) k (byte-at f k) (allowed k (omega arith))
+    (λ e. ap (byte-at f) e ∙ kind-there (byte-at f 9) (allowed 9 (lit< tt)))
+    (λ e. ap (byte-at f) e) (λ e. absurd (omega arith)) (λ e. absurd (omega arith)))
 
 -- a frame of the form is the frame of the reply that it names
 module _ (f : FrameM) (groups : ℕ) (g : Grouped f groups) (form : LinkForm f) where

@@ -21,7 +21,7 @@ use Rattle.frame.specs.Frame.{FrameM, Grouped, byte-at, mark-at}
 use Rattle.frame.specs.Lowest.{lowest-wrong}
 use Rattle.terms.specs.Mark.{mark-number}
 use Rattle.frame.specs.Packet.{IsPacket}
-use Rattle.frame.specs.Reading.{refused-at, then, sync-right, mark-right, byte-right, unit-right, lowest-sync, lowest-mark, lowest-byte, lowest-unit, sync-checked, form-checked, units-checked, reply-of, link-right, reading-as, reading, Good, packet, reply, Broken, Says}
+use Rattle.frame.specs.Reading.{refused-at, then, sync-right, mark-right, byte-right, unit-right, lowest-sync, lowest-mark, lowest-byte, lowest-unit, sync-checked, form-checked, units-checked, reply-of, word-check, link-right, reading-as, reading, Good, packet, reply, Broken, Says}
 use Rattle.frame.specs.Reserved.{cleared}
 use Rattle.frame.specs.Word.{word-bytes}
 use Rattle.terms.specs.declared.content.Content.{Content}
@@ -33,7 +33,7 @@ use Rattle.frame.specs.declared.frame.Kind.the-variants.{Protocol, Link}
 use Rattle.terms.specs.declared.mark.Mark.{Mark}
 use Rattle.terms.specs.declared.mark.Mark.the-variants.{Zero, Data, Control}
 use Rattle.terms.specs.declared.reply.Reply.{Reply}
-use Rattle.frame.proofs.Links.{LinkForm, reply-long, reply-marks-long, reply-named, reply-form, form-reply}
+use Rattle.frame.proofs.Links.{LinkForm, reply-long, reply-marks-long, reply-named, reply-form, form-reply, word-of}
 use Rattle.frame.proofs.Lowest.{none-wrong, all-right}
 use mathlib.Core.List.{List, [], _∷_, map}
 use Rattle.frame.proofs.Protocols.{ProtocolForm, sized, sealed-long, sealed-marks-long, sealed-byte, sealed-form, sealed-cleared, form-packet, form-sealed, allowed-start, id-there}
@@ -119,7 +119,8 @@ reads-link f some form =
     let kind : kind-of f ≡ Link = ap₂ (λ m b. cond (eqb m 2 && eqb b 0x5C) Link Protocol) first lead in
     let short : ltb 128 (length (f .bytes)) ≡ false = le-ltb 128 (length (f .bytes)) (omega (arith, form .one)) in
     let bytes : (k : ℕ) → k < length (f .bytes) → link-allows k (byte-at f k) ≡ true = λ k h. form .bytes k (omega (arith, form .one)) in
-    let right : link-right f ≡ true = and-from _ _ (eq-eqb (byte-at f 14) _ (form .low)) (eq-eqb (byte-at f 15) _ (form .high)) in
+    let word : reply-check (reply-of f) ≡ word-check f = sym (word-of f (form .one) (form .bytes)) in
+    let right : link-right f ≡ true = and-from _ _ (eq-eqb (byte-at f 14) _ (form .low ∙ ap (λ c. c % 256) word)) (eq-eqb (byte-at f 15) _ (form .high ∙ ap (λ c. c / 256) word)) in
     rw (marks-sync Link f (form .marks), kind, short, form-right Link f (form .marks) bytes, right)
 
 -- what a frame has whose reading as a kind answered Ok
@@ -149,14 +150,16 @@ ok-as Link f groups g x e =
     let p = then-ok (form-checked Link f) _ x (s .1) in
     let q = checked-ok (link-right f) (content.Reply (reply-of f)) x (p .1) in
     let form = right-form Link f (p .0) in
-    let right = and-parts (eqb (byte-at f 14) (reply-check (reply-of f) % 256)) (eqb (byte-at f 15) (reply-check (reply-of f) / 256)) (q .0) in
-    let one : length (f .bytes) ≡ 128 = omega (arith, ltb-false 128 (length (f .bytes)) (s .0), g .some, g .bytes-long) in (
+    let right = and-parts (eqb (byte-at f 14) (word-check f % 256)) (eqb (byte-at f 15) (word-check f / 256)) (q .0) in
+    let one : length (f .bytes) ≡ 128 = omega (arith, ltb-false 128 (length (f .bytes)) (s .0), g .some, g .bytes-long) in
+    let allowed : (k : ℕ) → k < 128 → link-allows k (byte-at f k) ≡ true = λ k h. form .1 k (omega arith) in
+    let word : word-check f ≡ reply-check (reply-of f) = word-of f one allowed in (
       record {
         one = one;
         marks = form .0;
-        bytes = λ k h. form .1 k (omega arith);
-        low = eqb-true (byte-at f 14) _ (right .0);
-        high = eqb-true (byte-at f 15) _ (right .1);
+        bytes = allowed;
+        low = eqb-true (byte-at f 14) _ (right .0) ∙ ap (λ c. c % 256) word;
+        high = eqb-true (byte-at f 15) _ (right .1) ∙ ap (λ c. c / 256) word;
       },
       q .1,
     )
@@ -221,10 +224,14 @@ word-there f one a =
 
 -- a link frame's check is right where its two bytes are those of the check, low byte first
 pub right-is : (f : FrameM) (r : Reply) (x : ℕ) (bs : List ℕ) (low high : ℕ) → r ≡ reply-of f → x ≡ reply-check r → x < 65536 → bs ≡ x % 256 ∷ (x / 256 % 256 ∷ [])
-    → low ≡ byte-at f 14 → high ≡ byte-at f 15 → link-right f ≡ (eqb low (getD bs 0 0) && eqb high (getD bs 1 0))
-right-is f r x bs low high named check fits bytes l h =
-    let c : x ≡ reply-check (reply-of f) = check ∙ ap reply-check named in
+    → low ≡ byte-at f 14 → high ≡ byte-at f 15 → word-check f ≡ reply-check (reply-of f) → link-right f ≡ (eqb low (getD bs 0 0) && eqb high (getD bs 1 0))
+right-is f r x bs low high named check fits bytes l h word =
+    let c : x ≡ word-check f = check ∙ ap reply-check named ∙ sym word in
     let top : x / 256 % 256 ≡ x / 256 = omega arith in
     ap₂ (λ a b. a && b)
     (ap₂ eqb (sym l) (ap (λ n. n % 256) (sym c) ∙ sym (ap (λ (z : List ℕ). getD z 0 0) bytes)))
     (ap₂ eqb (sym h) (ap (λ n. n / 256) (sym c) ∙ sym top ∙ sym (ap (λ (z : List ℕ). getD z 1 0) bytes)))
+
+-- where a link form was checked, the check of the frame's own bytes is that of the reply that it names
+pub form-word : (f : FrameM) → length (f .bytes) ≡ 128 → Ok tt ≡ form-checked Link f → word-check f ≡ reply-check (reply-of f)
+form-word f one a = word-of f one (λ k h. right-form Link f (sym a) .1 k (omega arith))

@@ -4,14 +4,14 @@ use mathlib.Core.Bool.{Bool, cond, _&&_, _||_}
 use mathlib.Core.List.{List, [], _∷_}
 use mathlib.Core.Path.{_≡_}
 use lib.Dec.{eqb, ltb}
-use lib.ListN.{length}
+use lib.ListN.{length, take, drop}
 use Rattle.std.specs.declared.option.Option.{Option}
 use Rattle.std.specs.declared.option.Option.the-variants.{Some, None}
 use Rattle.std.specs.declared.result.Result.{Result}
 use Rattle.std.specs.declared.result.Result.the-variants.{Ok, Err}
 use Rattle.crc.specs.Check.{link-check}
 use Rattle.frame.specs.Units.{unit-check}
-use Rattle.frame.specs.Form.{kind-of, form-mark, allows, sealed, reply-frame, reply-check}
+use Rattle.frame.specs.Form.{kind-of, form-mark, allows, sealed, reply-frame}
 use Rattle.frame.specs.Frame.{FrameM, byte-at, mark-at}
 use Rattle.frame.specs.Lowest.{lowest-wrong}
 use Rattle.terms.specs.Mark.{mark-number}
@@ -84,9 +84,13 @@ units-checked f = refused-at (λ j. Check (length (f .bytes) - 14 + j)) (lowest-
 abbrev pub reply-of : FrameM → Reply
 reply-of f = record { kind = cond (eqb (byte-at f 9) 0x80) Nak Ack; id = byte-at f 10 }
 
--- a link frame's check is right
+-- the link check of a frame's places 8 to 13
+abbrev pub word-check : FrameM → ℕ
+word-check f = link-check (take 6 (drop 8 (f .bytes)))
+
+-- a link frame's check is right: it stands at places 14 and 15, low byte first
 abbrev pub link-right : FrameM → Bool
-link-right f = eqb (byte-at f 14) (reply-check (reply-of f) % 256) && eqb (byte-at f 15) (reply-check (reply-of f) / 256)
+link-right f = eqb (byte-at f 14) (word-check f % 256) && eqb (byte-at f 15) (word-check f / 256)
 
 abbrev pub reading-as : Kind → FrameM → Result Content FrameFault
 reading-as Protocol f =

@@ -22,7 +22,7 @@ use Rattle.terms.specs.declared.reply.Reply.{Reply}
 use Rattle.terms.specs.declared.reply.ReplyKind.{ReplyKind}
 use Rattle.terms.specs.declared.reply.ReplyKind.the-variants.{Ack, Nak}
 use Rattle.std.proofs.shelf.Lists.{take-take, drop-take}
-use Rattle.frame.proofs.Readings.{link-answer, word-there, right-is}
+use Rattle.frame.proofs.Readings.{link-answer, word-there, right-is, form-word}
 use Rattle.frame.proofs.Views.{grouped}
 use Rattle.frame.proofs.frame.Frame.read_link.Needs as need
 use Rattle.frame.proofs.frame.Frame.read_link.Needs.{then-word, else-word}
@@ -53,7 +53,7 @@ module _ (f : Frame) (one : f .groups ≤ 1) (form : Ok tt ≡ form-checked Link
   answer k x bs b e check fits bytes right =
       ap (λ r. cond b (Ok (ReplyContent r)) (Err (Check 14))) (named k e)
       ∙ link-answer (view f) b (omega (arith, grouped f .bytes-long, one)) form
-      (right-is (view f) (record { kind = k; id = w .id }) x bs (w .low) (w .high) (named k e) check fits bytes (at 6) (at 7) ∙ right)
+      (right-is (view f) (record { kind = k; id = w .id }) x bs (w .low) (w .high) (named k e) check fits bytes (at 6) (at 7) (form-word (view f) (omega (arith, grouped f .bytes-long, one, f .some)) form) ∙ right)
 
 kind-is : (b : ℕ) (k : ReplyKind) → ((b ≡ 0x80) × (k ≡ Nak)) ⊎ ((b ≡ 0x80 → ⊥) × (k ≡ Ack)) → k ≡ cond (eqb b 0x80) Nak Ack
 kind-is b k (inl (e, is)) = is ∙ sym (cond-true (eqb b 0x80) Nak Ack (eq-eqb b 0x80 e))
