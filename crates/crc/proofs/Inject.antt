@@ -1,13 +1,13 @@
 -- No two states, and no two bytes, step to the same state, at every width suc v of at least eight and every odd polynomial.
 use mathlib.Core.Path.{_≡_, refl, sym, ap, ap₂, _∙_, subst}
-use mathlib.Core.Bool.{Bool, true, false, cond}
+use mathlib.Core.Bool.{cond}
 use mathlib.Core.List.{List, [], _∷_}
-use Prim.Native.Nat.{ℕ, zero, suc, _+_, _-_, _*_, _/_, _%_, _^_, _<_, _≤_}
-use native.Mathlib.Nat.{mul-mod-left, mul-div-cancel, mod-eq-of-lt, div-add-mod', zero-mul, zero-add, one-mul, mul-one, not-suc-le-zero, le-of-suc-le-suc}
+use Prim.Native.Nat.{ℕ, zero, suc, _+_, _-_, _*_, _/_, _%_, _^_, _<_}
+use native.Mathlib.Nat.{mul-mod-left, mod-eq-of-lt, div-add-mod', mul-one, not-suc-le-zero, le-of-suc-le-suc}
 use native.Mathlib.Numerals.{one-add}
 use native.Mathlib.Omega.{arith}
 use lib.Dec.{eqb}
-use lib.Bits.{bitXor, xor-zero-l, xor-zero-r, xor-comm, xor-assoc, xor-self, xor-mod, xor-lt}
+use lib.Bits.{bitXor, xor-zero-r, xor-comm, xor-assoc, xor-self, xor-mod, xor-lt}
 use lib.Pow.{pow-pos, shl-shr}
 use lib.ListN.{length, getD, set}
 use Rattle.std.proofs.shelf.Bits.{shl-below, shr-below, mod-below}

@@ -1,16 +1,15 @@
 -- The step of a bit and of a byte, at every width suc v: a step with a bit is a step without one, of the state with the bit xored in at its top.
 use mathlib.Core.Path.{_≡_, refl, sym, ap, ap₂, _∙_, subst}
-use mathlib.Core.Bool.{Bool, true, false, cond}
-use mathlib.Core.List.{List, [], _∷_}
-use Prim.Native.Nat.{ℕ, zero, suc, _+_, _-_, _*_, _/_, _%_, _^_, _<_, _≤_}
-use native.Mathlib.Nat.{mul-mod-left, mod-eq-of-lt, div-eq-of-lt, mod-one, zero-mul, add-zero, zero-add, mul-assoc, add-mul, pow-suc, mul-comm}
+use mathlib.Core.Bool.{true, false, cond}
+use Prim.Native.Nat.{ℕ, zero, suc, _+_, _-_, _*_, _/_, _%_, _^_, _<_}
+use native.Mathlib.Nat.{mul-mod-left, mod-eq-of-lt, div-eq-of-lt, mod-one, zero-mul, add-zero, mul-assoc, add-mul, pow-suc}
 use native.Mathlib.Numerals.{unary-clauses, add-one, one-add}
 use native.Mathlib.Omega.{arith}
 use lib.Dec.{eqb}
-use lib.Bits.{bitXor, xor-zero-r, xor-comm, xor-assoc, xor-self, xor-shr, xor-mod, xor-block, xor-shifted, xor-lt}
+use lib.Bits.{bitXor, xor-zero-r, xor-comm, xor-assoc, xor-shr, xor-mod, xor-block, xor-shifted}
 use lib.Pow.{pow-pos, pow-add, shl-shr}
 use Rattle.std.proofs.shelf.Bits.{mod-pow-add, shl-below, mod-below}
-use Rattle.crc.specs.Check.{bit-step, bits-run, byte-step, run}
+use Rattle.crc.specs.Check.{bit-step, bits-run}
 
 -- the polynomial goes in where f is 1
 abbrev pub fed : ℕ → ℕ → ℕ → ℕ

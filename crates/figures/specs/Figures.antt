@@ -6,7 +6,6 @@ use lib.ListN.{take, drop, set, replicate}
 use Rattle.std.specs.shelf.Lists.{All}
 use Rattle.frame.specs.Form.{sealed, reply-frame}
 use Rattle.frame.specs.Frame.{byte-at}
-use Rattle.terms.specs.declared.reply.Reply.{Reply}
 use Rattle.terms.specs.declared.reply.ReplyKind.the-variants.{Ack}
 
 -- the check of unit 1, at place 115 of one group that is zero but for that unit's last byte, at place 31

@@ -1,20 +1,20 @@
 -- What copying into room leaves: the front, a trailer, a host's buffer.
 use mathlib.Core.Path.{_≡_, refl, sym, ap, ap₂, _∙_}
-use mathlib.Core.Bool.{Bool, true, false, cond, not, _||_}
+use mathlib.Core.Bool.{true, cond}
 use mathlib.Core.List.{List, [], _∷_, _++_}
-use Prim.Native.Nat.{ℕ, _+_, _-_, _*_, _/_, _%_, _<_, _≤_}
+use Prim.Native.Nat.{ℕ, _+_, _-_, _*_, _/_, _<_, _≤_}
 use native.Mathlib.Omega.{arith}
 use borrow.Author.Count.{below-more}
-use lib.Dec.{eqb, ltb}
+use lib.Dec.{ltb}
 use lib.ListN.{length, getD, set, take, drop}
 use Rattle.std.proofs.shelf.Lists.{take-at, take-more, drop-more, take-all, append-assoc, set-at, length-set, length-take-le, getD-set-same, getD-set-other}
 use Rattle.std.proofs.shelf.Ways.{tells}
 use Rattle.std.specs.declared.option.Option.the-variants.{None}
-use Rattle.frame.specs.Packet.{one-of-five, clear-at, lowest-reserved, packet-fault}
+use Rattle.frame.specs.Packet.{one-of-five, clear-at, lowest-reserved}
 use Rattle.frame.specs.Reserved.{reserved, cleared}
 use Rattle.frame.specs.Trailer.{Trailed}
 use Rattle.frame.proofs.Lowest.{all-right}
-use Rattle.frame.proofs.Placed.{is-cleared, cleared-long}
+use Rattle.frame.proofs.Placed.{is-cleared}
 use Rattle.frame.proofs.Protocols.{sized}
 
 -- the front of room that begins with the items

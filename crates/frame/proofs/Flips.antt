@@ -1,21 +1,19 @@
 -- One flipped byte breaks a good frame.
 use mathlib.Core.Path.{_≡_, refl, sym, ap, ap₂, _∙_, subst}
-use mathlib.Core.Bool.{Bool, true, false, cond}
 use mathlib.Core.Logic.{_⊎_, inl, inr}
 use mathlib.Core.List.{List}
 use Prim.Native.Nat.{ℕ, _+_, _-_, _*_, _/_, _%_, _<_, _≤_}
 use native.Mathlib.Nat.{div-add-mod'}
 use native.Mathlib.Omega.{arith}
 use lib.Bits.{bitXor, xor-lt, xor-zero-r}
-use lib.Dec.{eqb, leb, ltb, lit<}
+use lib.Dec.{lit<}
 use lib.ListN.{length, getD, set, take, drop}
 use Rattle.std.proofs.shelf.Lists.{length-set, length-take, length-drop, getD-set-same, getD-set-other, getD-take, getD-drop}
 use Rattle.std.proofs.shelf.Tests.{cases-lt, cases-eq}
 use Rattle.std.proofs.shelf.Ways.{tells}
 use Rattle.crc.specs.Check.{run, link-check}
-use Rattle.frame.specs.Units.{unit-check}
-use Rattle.frame.specs.Form.{form-mark, protocol-allows, kind-byte, reply-check, link-byte, sealed, reply-frame}
-use Rattle.frame.specs.Frame.{FrameM, Grouped, byte-at, mark-at, flipped}
+use Rattle.frame.specs.Form.{form-mark, reply-check, link-byte, reply-frame}
+use Rattle.frame.specs.Frame.{FrameM, Grouped, byte-at, flipped}
 use Rattle.terms.specs.Mark.{mark-number}
 use Rattle.frame.specs.Reading.{Good, packet, reply, Broken}
 use Rattle.frame.specs.declared.frame.Kind.the-variants.{Protocol}

@@ -1,18 +1,18 @@
 -- A link frame by its facts: its marks, its fixed bytes and its check.
 use mathlib.Core.Path.{_≡_, refl, sym, ap, ap₂, _∙_, subst}
-use mathlib.Core.Bool.{Bool, true, false, cond, _||_}
-use mathlib.Core.Logic.{_⊎_, inl, inr}
-use Prim.Native.Nat.{ℕ, _+_, _-_, _*_, _/_, _%_, _<_, _≤_}
+use mathlib.Core.Bool.{true, cond, _||_}
+use mathlib.Core.Logic.{inl, inr}
+use Prim.Native.Nat.{ℕ, _+_, _-_, _/_, _%_, _<_, _≤_}
 use native.Mathlib.Omega.{arith}
-use lib.Dec.{eqb, leb, ltb, lit<}
+use lib.Dec.{eqb, lit<}
 use lib.ListN.{length, getD, take, drop}
 use mathlib.Core.List.{List}
 use Rattle.std.proofs.shelf.Counted.{fill-by-all}
 use Rattle.std.proofs.shelf.Lists.{length-take, length-drop, getD-take, getD-drop}
 use Rattle.crc.specs.Check.{link-check}
-use Rattle.std.proofs.shelf.Tests.{cases-lt, cases-eq, eqb-true, eq-eqb}
+use Rattle.std.proofs.shelf.Tests.{cases-eq}
 use Rattle.std.proofs.shelf.Ways.{tells}
-use Rattle.frame.specs.Form.{form-mark, link-allows, kind-byte, reply-check, link-byte, framed, reply-frame}
+use Rattle.frame.specs.Form.{link-allows, kind-byte, reply-check, link-byte, reply-frame}
 use Rattle.frame.specs.Frame.{FrameM, Grouped, byte-at, mark-at}
 use Rattle.terms.specs.Mark.{mark-number}
 use Rattle.frame.specs.Reading.{reply-of, word-check}

@@ -1,20 +1,18 @@
 -- Bytes and frames that are given place by place.
-use mathlib.Core.Path.{_≡_, refl, sym, ap, ap₂, _∙_}
-use mathlib.Core.Bool.{true, false, cond}
+use mathlib.Core.Path.{_≡_, sym, ap, ap₂, _∙_}
+use mathlib.Core.Bool.{false, cond}
 use mathlib.Core.List.{List, map}
-use Prim.Native.Nat.{ℕ, _+_, _/_, _<_, _≤_}
+use Prim.Native.Nat.{ℕ, _/_, _<_}
 use native.Mathlib.Nat.{zero-add}
 use native.Mathlib.Omega.{arith}
 use lib.ListN.{length, getD}
 use Rattle.std.specs.Iters.{counting}
 use Rattle.std.proofs.shelf.Counted.{length-map-counting, getD-map-counting, fill-by-all}
 use Rattle.std.proofs.shelf.Tests.{cond-true, cond-false, cond-both}
-use Rattle.frame.specs.Units.{counted, unit-check}
 use Rattle.frame.specs.Form.{form-mark, framed}
 use Rattle.frame.specs.Frame.{FrameM, byte-at, parted}
 use Rattle.frame.specs.Reserved.{reserved, cleared}
 use Rattle.frame.specs.declared.frame.Kind.{Kind}
-use Rattle.terms.specs.declared.mark.Mark.{Mark}
 use Rattle.terms.specs.declared.mark.Mark.the-variants.{Zero}
 
 -- equal at every place

@@ -1,18 +1,17 @@
 -- A protocol frame by its facts: its marks, its fixed bytes and its checks.
-use mathlib.Core.Path.{_≡_, refl, sym, ap, ap₂, _∙_, subst}
-use mathlib.Core.Bool.{Bool, true, false, cond, _||_}
-use mathlib.Core.Logic.{_⊎_, inl, inr}
+use mathlib.Core.Path.{_≡_, refl, sym, ap, ap₂, _∙_}
+use mathlib.Core.Bool.{true, false, cond}
+use mathlib.Core.Logic.{inl, inr}
 use mathlib.Core.List.{List}
 use Prim.Native.Nat.{ℕ, _+_, _-_, _*_, _/_, _%_, _<_, _≤_}
 use native.Mathlib.Omega.{arith}
-use borrow.Author.Needs.{needs}
-use lib.Dec.{eqb, leb, ltb}
+use lib.Dec.{eqb}
 use lib.ListN.{length, getD, set}
 use Rattle.std.proofs.shelf.Lists.{length-set, getD-set-same, getD-set-other}
-use Rattle.std.proofs.shelf.Tests.{cases-lt, cases-eq, cases-bool, eqb-true, eq-eqb, ne-eqb, lt-ltb, le-ltb, lt-leb, le-leb, cond-true, cond-false, leb-true, and-parts, and-from}
+use Rattle.std.proofs.shelf.Tests.{cases-lt, cases-eq, eqb-true, eq-eqb, le-leb, leb-true, and-parts, and-from}
 use Rattle.std.proofs.shelf.Ways.{tells}
 use Rattle.frame.specs.Units.{unit-check}
-use Rattle.frame.specs.Form.{form-mark, protocol-allows, protocol-byte, framed, sealed}
+use Rattle.frame.specs.Form.{form-mark, protocol-allows, protocol-byte, sealed}
 use Rattle.frame.specs.Frame.{FrameM, Grouped, byte-at, mark-at}
 use Rattle.terms.specs.Mark.{mark-number}
 use Rattle.frame.specs.Packet.{one-of-five, IsPacket}

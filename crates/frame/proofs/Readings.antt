@@ -1,42 +1,38 @@
 -- Reading answers Ok on just the two forms.
 use mathlib.Core.Path.{_≡_, refl, sym, ap, ap₂, _∙_, subst}
 use mathlib.Core.Bool.{Bool, true, false, cond, _&&_, _||_}
-use mathlib.Core.Logic.{_⊎_, inl, inr}
 use Prim.Native.Nat.{ℕ, _+_, _-_, _*_, _/_, _%_, _<_, _≤_}
 use native.Mathlib.Omega.{arith}
-use lib.Dec.{eqb, leb, ltb, lit<, lit≤}
+use lib.Dec.{eqb, ltb, lit<, lit≤}
 use lib.ListN.{length, getD, take, drop}
 use Rattle.std.specs.Iters.{counting}
 use Rattle.std.proofs.shelf.Counted.{fill-by-all}
 use Rattle.std.proofs.shelf.Lists.{length-take, length-drop, getD-take, getD-drop}
-use Rattle.std.proofs.shelf.Tests.{cases-bool, cases-eq, eqb-true, eq-eqb, ne-eqb, le-ltb, ltb-false, and-parts, and-from, cond-both, cond-false, and-right}
+use Rattle.std.proofs.shelf.Tests.{eqb-true, eq-eqb, ne-eqb, le-ltb, ltb-false, and-parts, and-from, cond-both, cond-false, and-right}
 use Rattle.std.proofs.shelf.Ways.{tells}
 use Rattle.std.specs.declared.option.Option.{Option}
 use Rattle.std.specs.declared.option.Option.the-variants.{Some, None}
 use Rattle.std.specs.declared.result.Result.{Result}
 use Rattle.std.specs.declared.result.Result.the-variants.{Ok, Err}
 use Rattle.frame.specs.Units.{unit-check}
-use Rattle.frame.specs.Form.{kind-of, form-mark, allows, sealed, reply-frame, reply-check, protocol-allows, link-allows}
+use Rattle.frame.specs.Form.{kind-of, form-mark, allows, sealed, reply-frame, reply-check, link-allows}
 use Rattle.frame.specs.Frame.{FrameM, Grouped, byte-at, mark-at}
-use Rattle.frame.specs.Lowest.{lowest-wrong}
 use Rattle.terms.specs.Mark.{mark-number}
 use Rattle.frame.specs.Packet.{IsPacket}
-use Rattle.frame.specs.Reading.{refused-at, then, sync-right, mark-right, byte-right, unit-right, lowest-sync, lowest-mark, lowest-byte, lowest-unit, sync-checked, form-checked, units-checked, reply-of, word-check, link-right, reading-as, reading, Good, packet, reply, Broken, Says}
-use Rattle.frame.specs.Reserved.{cleared}
+use Rattle.frame.specs.Reading.{refused-at, then, sync-right, mark-right, byte-right, unit-right, lowest-mark, lowest-byte, lowest-unit, sync-checked, form-checked, units-checked, reply-of, word-check, link-right, reading-as, reading, Good, packet, reply, Says}
 use Rattle.frame.specs.Word.{word-bytes}
 use Rattle.terms.specs.declared.content.Content.{Content}
 use Rattle.terms.specs.declared.content.Content.the-variants as content
 use Rattle.terms.specs.declared.fault.FrameFault.{FrameFault}
-use Rattle.terms.specs.declared.fault.FrameFault.the-variants.{Sync, Form, Check}
+use Rattle.terms.specs.declared.fault.FrameFault.the-variants.{Form, Check}
 use Rattle.frame.specs.declared.frame.Kind.{Kind}
 use Rattle.frame.specs.declared.frame.Kind.the-variants.{Protocol, Link}
-use Rattle.terms.specs.declared.mark.Mark.{Mark}
-use Rattle.terms.specs.declared.mark.Mark.the-variants.{Zero, Data, Control}
+use Rattle.terms.specs.declared.mark.Mark.the-variants.{Data, Control}
 use Rattle.terms.specs.declared.reply.Reply.{Reply}
-use Rattle.frame.proofs.Links.{LinkForm, reply-long, reply-marks-long, reply-named, reply-form, form-reply, word-of}
+use Rattle.frame.proofs.Links.{LinkForm, reply-marks-long, reply-named, reply-form, form-reply, word-of}
 use Rattle.frame.proofs.Lowest.{none-wrong, all-right}
 use mathlib.Core.List.{List, [], _∷_, map}
-use Rattle.frame.proofs.Protocols.{ProtocolForm, sized, sealed-long, sealed-marks-long, sealed-byte, sealed-form, sealed-cleared, form-packet, form-sealed, allowed-start, id-there}
+use Rattle.frame.proofs.Protocols.{ProtocolForm, sized, sealed-long, sealed-byte, sealed-form, form-packet, form-sealed, allowed-start, id-there}
 
 -- no number is two things
 clash : {X : Type 0} {A : Type 0} {E : Type 0} {x : A} {e : E} → _≡_ {A = Result A E} (Err e) (Ok x) → X

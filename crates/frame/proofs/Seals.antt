@@ -1,19 +1,17 @@
 -- The bytes that sealing writes are the protocol frame's.
 use mathlib.Core.Path.{_≡_, refl, sym, ap, ap₂, _∙_}
-use mathlib.Core.Bool.{cond}
 use mathlib.Core.List.{List, map, _++_}
 use mathlib.Core.Logic.{inl, inr}
-use Prim.Native.Nat.{ℕ, _+_, _-_, _*_, _/_, _<_, _≤_}
+use Prim.Native.Nat.{ℕ, _+_, _-_, _/_, _<_}
 use native.Mathlib.Omega.{arith}
-use lib.Dec.{ltb, lit<}
 use lib.ListN.{length, getD, set, take}
 use Rattle.std.proofs.shelf.Lists.{getD-append-left, getD-set-same, getD-set-other, getD-take, length-set, length-append, length-take-le}
 use Rattle.std.proofs.shelf.Tests.{cases-lt, cases-eq, cond-below, cond-above}
 use Rattle.std.specs.Iters.{counting}
 use Rattle.std.proofs.shelf.Counted.{fill-by-all}
 use Rattle.frame.specs.Units.{unit-check}
-use Rattle.frame.specs.Form.{form-mark, protocol-byte, framed, sealed}
-use Rattle.frame.specs.Frame.{FrameM, parted}
+use Rattle.frame.specs.Form.{form-mark, protocol-byte, sealed}
+use Rattle.frame.specs.Frame.{parted}
 use Rattle.frame.specs.Packet.{IsPacket}
 use Rattle.frame.specs.Trailer.{Trailed}
 use Rattle.frame.specs.declared.frame.Kind.the-variants.{Protocol}

@@ -5,15 +5,11 @@ use Prim.Native.Nat.{ℕ, _≤_}
 use native.Mathlib.Omega.{arith}
 use lib.ListN.{length, drop}
 use Rattle.std.proofs.shelf.Tests.{cond-above}
-use Rattle.std.specs.declared.result.Result.{Result}
 use Rattle.std.specs.declared.result.Result.the-variants.{Ok, Err}
 use Rattle.frame.specs.Form.{sealed}
 use Rattle.frame.specs.Packet.{IsPacket}
-use Rattle.frame.specs.Reading.{reading}
 use Rattle.frame.specs.Reserved.{cleared}
-use Rattle.frame.specs.Unpacking.{copying, copied-into, unpacking-read, unpacked-read, once-copied, Unpacks}
-use Rattle.terms.specs.declared.content.Content.the-variants as content
-use Rattle.terms.specs.declared.fault.HostFault.{HostFault}
+use Rattle.frame.specs.Unpacking.{copying, copied-into, unpacking-read, unpacked-read, Unpacks}
 use Rattle.frame.proofs.Protocols.{sealed-long, sealed-cleared}
 use Rattle.frame.proofs.Readings.{reads-sealed}
 

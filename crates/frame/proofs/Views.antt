@@ -1,13 +1,13 @@
 -- A frame of the code and what it says.
-use mathlib.Core.Path.{_≡_, refl, sym, ap, ap₂, _∙_}
+use mathlib.Core.Path.{_≡_, sym, ap, _∙_}
 use mathlib.Core.List.{List}
-use Prim.Native.Nat.{ℕ, _+_, _*_, _<_, _≤_}
+use Prim.Native.Nat.{ℕ, _*_, _<_, _≤_}
 use native.Mathlib.Omega.{arith}
 use lib.Bits.{bitXor}
 use lib.ListN.{length, getD, set, take}
 use lib.Seq.{take-set-lt}
 use Rattle.std.proofs.shelf.Lists.{getD-take, length-take, set-past}
-use Rattle.frame.specs.Frame.{FrameM, Grouped, view, parted, byte-at, mark-at, flipped, marked}
+use Rattle.frame.specs.Frame.{Grouped, view, parted, byte-at, flipped, marked}
 use Rattle.frame.specs.Packet.{IsPacket, packet-bytes}
 use Rattle.frame.specs.declared.packet.Packet.{Packet}
 use Rattle.frame.proofs.Protocols.{one-of-five-is}

@@ -2,7 +2,7 @@ use borrow.Author.Needs.{needs}
 use mathlib.Core.Path.{sym, subst}
 use native.Mathlib.Omega.{arith}
 use Prim.Native.Nat.{_<_}
-use Rattle.frame.specs.Frame.{view, flipped}
+use Rattle.frame.specs.Frame.{view}
 use Rattle.frame.specs.Reading.{Broken}
 use Rattle.frame.proofs.Flips.{flip-breaks}
 use Rattle.frame.proofs.Views.{grouped, view-byte, view-flipped, view-past}

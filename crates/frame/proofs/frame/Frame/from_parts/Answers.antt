@@ -1,4 +1,4 @@
-use mathlib.Core.Path.{_≡_, sym, ap, ap₂, _∙_}
+use mathlib.Core.Path.{_≡_, sym, ap₂}
 use mathlib.Core.Bool.{true}
 use Prim.Native.Nat.{_*_, _/_}
 use native.Mathlib.Omega.{arith}

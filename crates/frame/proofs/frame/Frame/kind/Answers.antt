@@ -1,7 +1,6 @@
-use mathlib.Core.Path.{_≡_, sym, ap, _∙_}
+use mathlib.Core.Path.{ap, _∙_}
 use native.Mathlib.Omega.{arith}
 use Rattle.std.proofs.shelf.Ways.{tells}
-use Rattle.frame.specs.Frame.{view, byte-at, mark-at}
 use Rattle.terms.specs.Mark.{mark-number}
 use Rattle.frame.proofs.Views.{view-byte, view-mark}
 use Rattle.frame.proofs.frame.Frame.kind.Needs as need

@@ -1,4 +1,4 @@
-use mathlib.Core.Path.{_≡_, sym, ap, ap₂, _∙_}
+use mathlib.Core.Path.{sym, ap, _∙_}
 use mathlib.Core.List.{List}
 use Prim.Native.Nat.{ℕ, _+_, _-_}
 use borrow.Author.Count.{below-more}
@@ -6,7 +6,7 @@ use native.Mathlib.Omega.{arith}
 use lib.ListN.{length, getD}
 use Rattle.std.proofs.shelf.Tests.{eq-eqb, ne-eqb}
 use Rattle.frame.specs.Units.{unit-check}
-use Rattle.frame.specs.Frame.{view, byte-at}
+use Rattle.frame.specs.Frame.{view}
 use Rattle.frame.specs.Reading.{unit-right}
 use Rattle.frame.proofs.Lowest.{found, missed}
 use Rattle.frame.proofs.frame.Frame.lowest_unit.Needs as need

@@ -1,4 +1,4 @@
-use mathlib.Core.Path.{_≡_, sym, _∙_}
+use mathlib.Core.Path.{_≡_, _∙_}
 use Rattle.std.proofs.shelf.Results.{err-from-errBy}
 use Rattle.frame.specs.Frame.{view}
 use Rattle.frame.specs.Reading.{reading}

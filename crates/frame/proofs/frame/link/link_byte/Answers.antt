@@ -1,10 +1,10 @@
-use mathlib.Core.Path.{_≡_, sym, ap, _∙_}
+use mathlib.Core.Path.{_≡_, ap}
 use mathlib.Core.List.{List}
 use Prim.Native.Nat.{ℕ, _/_, _%_}
 use native.Mathlib.Omega.{arith}
 use lib.ListN.{getD}
 use Rattle.std.proofs.shelf.Ways.{tells}
-use Rattle.frame.specs.Form.{kind-byte, reply-check, link-byte}
+use Rattle.frame.specs.Form.{kind-byte, link-byte}
 use Rattle.frame.proofs.frame.link.link_byte.Needs as need
 
 pub returns-in-8 : need.returns-in-8

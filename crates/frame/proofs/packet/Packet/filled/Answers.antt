@@ -6,7 +6,7 @@ use Prim.Native.Nat.{ℕ, _*_, _/_, _≤_, _<_}
 use native.Mathlib.Omega.{arith}
 use lib.ListN.{length, getD, set, take, replicate}
 use Rattle.std.proofs.shelf.Edits.{fill-by-more}
-use Rattle.std.proofs.shelf.Lists.{getD-take, length-take, length-take-le, length-replicate, getD-replicate}
+use Rattle.std.proofs.shelf.Lists.{getD-take, length-take-le, length-replicate, getD-replicate}
 use Rattle.std.proofs.shelf.Tests.{cond-true, cond-false}
 use Rattle.frame.specs.Packet.{one-of-five}
 use Rattle.frame.specs.Reserved.{reserved, cleared}

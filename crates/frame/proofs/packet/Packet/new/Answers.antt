@@ -1,11 +1,8 @@
-use borrow.Author.Needs.{needs}
-use mathlib.Core.Path.{_≡_, sym, ap, subst, _∙_}
+use mathlib.Core.Path.{_≡_, sym, ap, _∙_}
 use mathlib.Core.Bool.{true}
-use Prim.Native.Nat.{ℕ, _*_, _/_}
-use mathlib.Core.List.{List}
+use Prim.Native.Nat.{_*_, _/_}
 use native.Mathlib.Omega.{arith}
-use lib.ListN.{length, take, length-append, length-drop}
-use Rattle.std.proofs.shelf.Ways.{tells}
+use lib.ListN.{length, length-append, length-drop}
 use Rattle.frame.specs.Packet.{one-of-five}
 use Rattle.frame.specs.Reserved.{cleared}
 use Rattle.frame.proofs.Copies.{front-is, groups-of, clear-is}
