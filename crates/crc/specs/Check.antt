@@ -1,9 +1,11 @@
 -- The cyclic checks of the link: a check over a width w and a polynomial p, and the link check.
-use Prim.Native.Nat.{ℕ, zero, suc, _-_, _*_, _/_, _%_, _^_}
+use Prim.Native.Nat.{ℕ, zero, suc, _-_, _*_, _/_, _%_, _^_, _<_}
 use mathlib.Core.Bool.{cond}
 use mathlib.Core.List.{List, [], _∷_}
+use mathlib.Core.Path.{_≡_}
 use lib.Bits.{bitXor}
 use lib.Dec.{eqb}
+use lib.ListN.{length, getD, set}
 
 -- one bit: it is xored with the state's top bit, the state moves left by one within w bits, and where that xor was 1 the polynomial is xored in
 unfoldable pub bit-step : ℕ → ℕ → ℕ → ℕ → ℕ
@@ -26,3 +28,7 @@ run w p s (x ∷ xs) = run w p (byte-step w p s x) xs
 -- the link check: sixteen bits, from the state 0
 unfoldable pub link-check : List ℕ → ℕ
 link-check xs = run 16 0x8005 0 xs
+
+-- one byte put in place of another shows in the state: where the state stays the same, so does the byte
+abbrev pub OneByteShows : ℕ → ℕ → ℕ → List ℕ → Type 0
+OneByteShows w p s xs = (i y : ℕ) → i < length xs → y < 256 → run w p s (set xs i y) ≡ run w p s xs → y ≡ getD xs i 0

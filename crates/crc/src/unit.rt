@@ -1,7 +1,7 @@
 // The check of one unit of a frame, as it runs.
 ghost use mathlib.Core.Path.{_≡_};
 ghost use lib.ListN.{replicate};
-ghost use Rattle.crc.specs.Check.{run as run-of};
+ghost use Rattle.crc.specs.Check.{run as run-of, OneByteShows};
 use crate::polynomial::UNIT;
 use crate::polynomial::run;
 
@@ -24,8 +24,10 @@ impl UnitCheck {
         self.state
     }
 
+    // No other byte in the place of one of the part's leaves the same state.
     pub fn feed(&mut self, part: &[u8])
-        ensures { λ _. ⌜ now (self .exit) .state ≡ run-of 8 0xA1 (now (self .entry) .state) (now (part .entry)) ⌝ }
+        ensures after { λ _. ⌜ now (self .exit) .state ≡ run-of 8 0xA1 (now (self .entry) .state) (now (part .entry)) ⌝ }
+        ensures shows { λ _. ⌜ OneByteShows 8 0xA1 (now (self .entry) .state) (now (part .entry)) ⌝ }
     {
         let state = run(UNIT, u16::from(self.state), part) as u8;
         *self = UnitCheck { state };

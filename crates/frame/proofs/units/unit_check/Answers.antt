@@ -16,7 +16,7 @@ loop-g-again c =
     (omega arith) (omega arith)
     (elim (c .if-at-eq0 .came) [ then-at-eq0 w ↦ inl (omega arith, w .lead-is) | else-at-eq0 w ↦ inr (omega arith, w .lead-is) ])
     (elim (c .if-at-bytes .came) [ then-at-bytes w ↦ inl (omega arith, w .trail-is) | else-at-bytes w ↦ inr (omega arith, w .trail-is) ])
-    (c .loop-g .inv) (c .feed-zeros .ensures) (c .feed .ensures) (c .feed-zeros-in-loop-g .ensures)
+    (c .loop-g .inv) (c .feed-zeros .ensures) (c .feed .ensures .after) (c .feed-zeros-in-loop-g .ensures)
 
 pub returns : need.returns
 unfolding unit-check

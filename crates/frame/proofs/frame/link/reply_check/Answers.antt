@@ -6,4 +6,4 @@ use Rattle.frame.proofs.frame.link.reply_check.Needs as need
 
 pub returns : need.returns
 unfolding reply-check
-returns c = c .link-check .ensures ∙ ap (λ kind. link-check (0xA5 ∷ kind ∷ c .args .reply .id ∷ 0 ∷ 0 ∷ 0 ∷ [])) (c .kind-byte .ensures)
+returns c = c .link-check .ensures .value ∙ ap (λ kind. link-check (0xA5 ∷ kind ∷ c .args .reply .id ∷ 0 ∷ 0 ∷ 0 ∷ [])) (c .kind-byte .ensures)
