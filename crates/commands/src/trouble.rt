@@ -18,7 +18,7 @@ pub impl From<AllocError> for Trouble as TroubleFromAlloc {
     ghost converts = { λ _ r. r ≡ Memory };
 
     fn from(_error: AllocError) -> Trouble {
-        Trouble::Memory
+        Self::Memory
     }
 }
 
