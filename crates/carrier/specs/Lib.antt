@@ -1,0 +1,3 @@
+pub mod Carrying
+pub mod Fault
+pub mod Straight
