@@ -1,5 +1,5 @@
 // What a carrier refuses.
-ghost use Rattle.carrier.specs.Fault.{carrier-refusal};
+ghost use Rattle.carrier.specs.Fault.{carrier-refusal, plan-refusal};
 use terms::fault::Layer;
 use terms::fault::Refusal;
 use terms::fault::Shown;
@@ -10,6 +10,15 @@ pub enum CarrierFault {
     Full,
     // there is no frame to take
     NoneWaiting,
+}
+
+// A harm that a plan does not take.
+#[derive(Clone, Copy, PartialEq, Eq, Debug)]
+pub enum PlanFault {
+    // a flip by a mask of zero
+    Mask,
+    // the plan holds all it can
+    Full,
 }
 
 pub impl Shown for CarrierFault as CarrierFaultShown {
@@ -23,6 +32,22 @@ pub impl Shown for CarrierFault as CarrierFaultShown {
         Refusal {
             number,
             layer: Layer::Carrier,
+            place: 0,
+        }
+    }
+}
+
+pub impl Shown for PlanFault as PlanFaultShown {
+    ghost shown = { plan-refusal };
+
+    fn refusal(&self) -> Refusal {
+        let number = match self {
+            PlanFault::Mask => 18,
+            PlanFault::Full => 19,
+        };
+        Refusal {
+            number,
+            layer: Layer::Setting,
             place: 0,
         }
     }
