@@ -1,0 +1,7 @@
+// The two ends of a link.
+
+#[derive(Clone, Copy, PartialEq, Eq, Debug)]
+pub enum Side {
+    A,
+    B,
+}
