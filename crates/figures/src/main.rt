@@ -5,11 +5,17 @@ ghost use Rattle.figures.specs.Figures.{figures, Hold};
 
 mod figure;
 
+use carrier::harming::Harming;
+use carrier::harming::HarmingCarrier;
+use carrier::straight::Straight;
+use carrier::straight::StraightCarrier;
 use crc::link::link_check;
 use figure::Figure;
 use figure::FigureDisplay;
 use frame::frame::Frame;
 use frame::packet::Packet;
+use link::side::Side;
+use link::worked::worked_counts;
 use std::error::AnyError;
 use terms::reply::Reply;
 use terms::reply::ReplyKind;
@@ -19,7 +25,7 @@ pub fn figures_proved() -> usize
     ensures hold { λ _. ⌜ Hold ⌝ }
     ensures count { λ r. ⌜ r ≡ length figures ⌝ }
 {
-    4
+    8
 }
 
 // The check of unit 1 in a sealed packet of one group that is zero but for that unit's last byte.
@@ -75,9 +81,24 @@ fn run_figures() -> [Figure; 5] {
     ]
 }
 
+// The counts of the worked run, for a harmed way there and a straight way back.
+fn show_worked_run(rt: &LibcRuntime) -> Result<(), AnyError> {
+    let counts = worked_counts::<Harming<Straight>, Straight>(Side::A);
+    let taken = counts.taken;
+    let handed_up = counts.handed_up;
+    let released = counts.released;
+    let held = counts.held;
+    println!(
+        rt,
+        "worked run: {taken} taken, {handed_up} handed up, {released} released, {held} held"
+    )?;
+    Ok(())
+}
+
 fn main(rt: LibcRuntime) -> Result<(), AnyError> {
     let proved = figures_proved();
     println!(rt, "{proved} figures of the rules are proved")?;
+    show_worked_run(&rt)?;
     let mut wrong = false;
     for figure in &run_figures() {
         println!(rt, "{figure}")?;
