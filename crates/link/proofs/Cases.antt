@@ -5,7 +5,7 @@ use mathlib.Core.List.{List, [], _++_}
 use mathlib.Core.Path.{_≡_, refl, sym, subst}
 use native.Mathlib.Omega.{arith}
 use lib.Dec.{eqb, leb, ltb}
-use lib.ListN.{length, getD, drop}
+use lib.ListN.{length, drop}
 use Rattle.std.proofs.shelf.Tests.{leb-false, ltb-true, ltb-false, eqb-true}
 use Rattle.std.specs.declared.option.Option.{Option}
 use Rattle.std.specs.declared.option.Option.the-variants.{Some, None}
@@ -20,7 +20,7 @@ use Rattle.terms.specs.declared.fault.PacketFault.{PacketFault}
 use Rattle.terms.specs.declared.fault.PacketFault.the-variants as packet
 use Rattle.terms.specs.declared.fault.Refusal.{Refusal}
 use Rattle.terms.specs.declared.reply.Reply.{Reply}
-use Rattle.frame.specs.Form.{kind-of, sealed, reply-frame}
+use Rattle.frame.specs.Form.{kind-of, reply-frame}
 use Rattle.frame.specs.Frame.{FrameM}
 use Rattle.frame.specs.Packet.{IsPacket, packet-fault, one-of-five, lowest-reserved, reserved-fault}
 use Rattle.frame.specs.Reading.{reading}
@@ -31,7 +31,7 @@ use Rattle.frame.proofs.Copies.{clear-is}
 use Rattle.carrier.specs.Carrying.{groups-of, Added}
 use Rattle.carrier.specs.Fault.{carrier-refusal}
 use Rattle.carrier.specs.declared.fault.CarrierFault.the-variants.{Full}
-use Rattle.link.specs.End.{cursor-id, distance, hold, rewind, advance, clear-reply, accept, release, rewind-on}
+use Rattle.link.specs.End.{distance, hold, rewind, accept, release, rewind-on}
 use Rattle.link.specs.Outcome
 use Rattle.link.specs.Rules
 
@@ -83,10 +83,10 @@ module _ (s : Outcome.Local) (P : Outcome.Outcome → Type 0) where
   -- what is put, and what then waits
   module _ (full : List FrameM → ℕ → Bool)
       (refuses : (r : Refusal) → Other r → P (Outcome.refuses s r []))
-      (replies : (r : Reply) → s .end .waiting ≡ Some r → (out : List FrameM) → Added (s .out) (reply-frame r) out → P (record { left = record { end = clear-reply (s .end); out = out; into = s .into }; answer = Outcome.sent-reply r; buffer = [] }))
-      (sends : s .end .cursor < length (s .end .held) → (out : List FrameM) → Added (s .out) (sealed (cursor-id (s .end)) (getD (s .end .held) (s .end .cursor) [])) out → P (record { left = record { end = advance (s .end); out = out; into = s .into }; answer = Outcome.sent-packet (cursor-id (s .end)); buffer = [] }))
+      (replies : (r : Reply) → s .end .waiting ≡ Some r → (out : List FrameM) → Added (s .out) (reply-frame r) out → P (Rules.once-put s (Rules.reply-out r (s .end)) out))
+      (sends : s .end .cursor < length (s .end .held) → (out : List FrameM) → Added (s .out) (Rules.packet-out (s .end) .frame) out → P (Rules.once-put s (Rules.packet-out (s .end)) out))
       (o : Outcome.Outcome) where
-    by-room : (b : Bool) (w : Rules.Sending) → ((out : List FrameM) → Added (s .out) (w .frame) out → P (record { left = record { end = w .end; out = out; into = s .into }; answer = w .answer; buffer = [] })) → Rules.SentUnless b s w o → P o
+    by-room : (b : Bool) (w : Rules.Sending) → ((out : List FrameM) → Added (s .out) (w .frame) out → P (Rules.once-put s w out)) → Rules.SentUnless b s w o → P o
     by-room true w puts is = subst P (sym is) (refuses (carrier-refusal Full) (omega arith))
     by-room false w puts d = subst P (sym (d .is)) (puts (d .out) (d .added))
 

@@ -15,7 +15,7 @@ use Rattle.frame.specs.Reading.{reading}
 use Rattle.frame.specs.Reserved.{reserved, cleared}
 use Rattle.frame.proofs.Protocols.{sealed-cleared}
 use Rattle.frame.proofs.Readings.{reads-sealed, reads-reply}
-use Rattle.carrier.specs.Carrying.{groups-of, whole, lost}
+use Rattle.carrier.specs.Carrying.{groups-of, Added, whole, lost}
 use Rattle.link.specs.declared.side.Side.the-variants.{A, B}
 use Rattle.link.specs.End.{EndM, fresh, nak, hold, rewind, advance, clear-reply, accept, object, release}
 use Rattle.link.specs.Outcome
@@ -77,8 +77,11 @@ module _ (s : Outcome.Local) (f : FrameM) where
 
 -- a put where nothing waits
 module _ (full : Fullness) (empty : (groups : ℕ) → full [] groups ≡ false) where
-  puts : (s : Outcome.Local) (w : Rules.Sending) (o : Outcome.Outcome) → s .out ≡ [] → Rules.Sent s w o → Rules.SentUnless (full (s .out) (groups-of (w .frame))) s w o
-  puts s w o none = subst (λ b. Rules.Sent s w o → Rules.SentUnless b s w o) (sym (ap (λ l. full l (groups-of (w .frame))) none ∙ empty (groups-of (w .frame)))) (λ d. d)
+  puts : (s : Outcome.Local) (w : Rules.Sending) (out : List FrameM) → s .out ≡ [] → Added (s .out) (w .frame) out
+      → Rules.SentUnless (full (s .out) (groups-of (w .frame))) s w (Rules.once-put s w out)
+  puts s w out none added =
+      let free : full (s .out) (groups-of (w .frame)) ≡ false = ap (λ l. full l (groups-of (w .frame))) none ∙ empty (groups-of (w .frame)) in
+      subst (λ b. Rules.SentUnless b s w (Rules.once-put s w out)) (sym free) (record { out = out; added = added; is = refl })
 
 module _ (there back : Fullness) (empty-there : (groups : ℕ) → there [] groups ≡ false) (empty-back : (groups : ℕ) → back [] groups ≡ false) where
   abbrev f0 : FrameM
@@ -97,17 +100,17 @@ module _ (there back : Fullness) (empty-there : (groups : ℕ) → there [] grou
   worked-runs =
       next {t = pair (hold (filled 7) fresh) fresh [] []} (record { does = ap (λ x. Rules.offering-unless x (seen-by A fresh-pair) (filled 7)) (sym filled-7); stays = refl })
       (next {t = pair a2 fresh [] []} (record { does = ap (λ x. Rules.offering-unless x (seen-by A (pair (hold (filled 7) fresh) fresh [] [])) (filled 8)) (sym filled-8); stays = refl })
-      (next {t = pair (advance a2) fresh [] []} (record { does = puts there empty-there _ _ _ refl (record { out = []; added = lost refl; is = refl }); stays = refl })
-      (next {t = pair a4 fresh (f1 ∷ []) []} (record { does = puts there empty-there _ _ _ refl (record { out = f1 ∷ []; added = whole refl; is = refl }); stays = refl })
+      (next {t = pair (advance a2) fresh [] []} (record { does = puts there empty-there _ _ _ refl (lost refl); stays = refl })
+      (next {t = pair a4 fresh (f1 ∷ []) []} (record { does = puts there empty-there _ _ _ refl (whole refl); stays = refl })
       (next {t = pair a4 b5 [] []} (record { does = reads-packet (seen-by B (pair a4 fresh (f1 ∷ []) [])) f1 1 (filled 8) is-8 refl; stays = refl })
-      (next {t = pair a4 (clear-reply b5) [] (nak-255 ∷ [])} (record { does = puts back empty-back _ _ _ refl (record { out = nak-255 ∷ []; added = whole refl; is = refl }); stays = refl })
+      (next {t = pair a4 (clear-reply b5) [] (nak-255 ∷ [])} (record { does = puts back empty-back _ _ _ refl (whole refl); stays = refl })
       (next {t = pair a7 (clear-reply b5) [] []} (record { does = reads-a-reply (seen-by A (pair a4 (clear-reply b5) [] (nak-255 ∷ []))) nak-255 (nak 255) refl; stays = refl })
-      (next {t = pair (advance a7) (clear-reply b5) (f0 ∷ []) []} (record { does = puts there empty-there _ _ _ refl (record { out = f0 ∷ []; added = whole refl; is = refl }); stays = refl })
+      (next {t = pair (advance a7) (clear-reply b5) (f0 ∷ []) []} (record { does = puts there empty-there _ _ _ refl (whole refl); stays = refl })
       (next {t = pair (advance a7) b9 [] []} (record { does = ap (λ bytes. Outcome.becomes (record { end = clear-reply b5; out = []; into = [] }) b9 (Outcome.handed-up 0 128) (bytes ++ replicate 512 0xEE)) (sym (sealed-cleared 0 (filled 7) is-7)) ∙ reads-packet (seen-by B (pair (advance a7) (clear-reply b5) (f0 ∷ []) [])) f0 0 (filled 7) is-7 refl; stays = refl })
       (next {t = pair a10 b9 [] []} (record { does = refl; stays = refl })
-      (next {t = pair (advance a10) b9 (f0 ∷ []) []} (record { does = puts there empty-there _ _ _ refl (record { out = f0 ∷ []; added = whole refl; is = refl }); stays = refl })
+      (next {t = pair (advance a10) b9 (f0 ∷ []) []} (record { does = puts there empty-there _ _ _ refl (whole refl); stays = refl })
       (next {t = pair (advance a10) b12 [] []} (record { does = reads-packet (seen-by B (pair (advance a10) b9 (f0 ∷ []) [])) f0 0 (filled 7) is-7 refl; stays = refl })
-      (next {t = pair (advance a10) (clear-reply b12) [] (nak-0 ∷ [])} (record { does = puts back empty-back _ _ _ refl (record { out = nak-0 ∷ []; added = whole refl; is = refl }); stays = refl })
+      (next {t = pair (advance a10) (clear-reply b12) [] (nak-0 ∷ [])} (record { does = puts back empty-back _ _ _ refl (whole refl); stays = refl })
       (next {t = worked-pair} (record { does = reads-a-reply (seen-by A (pair (advance a10) (clear-reply b12) [] (nak-0 ∷ []))) nak-0 (nak 0) refl; stays = refl })
       (next {t = worked-pair} (record { does = refl; stays = refl })
       start))))))))))))))

@@ -11,7 +11,7 @@ use Rattle.link.specs.declared.side.Side.{Side}
 
 -- one direction: the packets taken at the near end, those handed up at the far end, how many the near end released, and how many it holds
 pub record Kept (took handed : List (List ℕ)) (freed held : ℕ) : Type 0 where
-  pub first : (rest : List (List ℕ)) × (took ≡ handed ++ rest)  -- handed up are the first of those taken: in order, each once, none lost, none changed
+  pub first : (rest : List (List ℕ)) × (took ≡ handed ++ rest)  -- handed up are the first of those taken: in order, each once, none left out, none changed
   pub kept : length took ≡ freed + held  -- each packet is held until it is released
   pub after : freed ≤ length handed  -- and released only after it was handed up
   pub settled : held ≡ 0 → handed ≡ took  -- so if none is held, all that were taken were handed up

@@ -53,22 +53,35 @@ pub record Sending : Type 0 where
   pub end : EndM
   pub answer : Answer
 
+-- the waiting reply goes out, and is cleared
+abbrev pub reply-out : Reply → EndM → Sending
+reply-out r e = record { frame = reply-frame r; end = clear-reply e; answer = sent-reply r }
+
+-- the held packet at the cursor goes out, and the cursor moves on
+abbrev pub packet-out : EndM → Sending
+packet-out e = record {
+  frame = sealed (cursor-id e) (getD (e .held) (e .cursor) []);
+  end = advance e;
+  answer = sent-packet (cursor-id e);
+}
+
 abbrev pub sending-after : Option Reply → EndM → Option Sending
-sending-after (Some r) e = Some (record { frame = reply-frame r; end = clear-reply e; answer = sent-reply r })
-sending-after None e =
-    cond (ltb (e .cursor) (length (e .held)))
-    (Some (record { frame = sealed (cursor-id e) (getD (e .held) (e .cursor) []); end = advance e; answer = sent-packet (cursor-id e) }))
-    None
+sending-after (Some r) e = Some (reply-out r e)
+sending-after None e = cond (ltb (e .cursor) (length (e .held))) (Some (packet-out e)) None
 
 -- what an end has to send: the waiting reply first, then the held packet at the cursor
 abbrev pub sending : EndM → Option Sending
 sending e = sending-after (e .waiting) e
 
--- the frame was put, and behind those on their way there is what the carrier's meaning allows: nothing else is open
+-- the outcome once it is put, by what is then on its way
+abbrev pub once-put : Local → Sending → List FrameM → Outcome
+once-put s w out = record { left = record { end = w .end; out = out; into = s .into }; answer = w .answer; buffer = [] }
+
+-- the carrier's meaning says what is then on its way: nothing else is open
 pub record Sent (s : Local) (w : Sending) (o : Outcome) : Type 0 where
   pub out : List FrameM
   pub added : Added (s .out) (w .frame) out
-  pub is : o ≡ record { left = record { end = w .end; out = out; into = s .into }; answer = w .answer; buffer = [] }
+  pub is : o ≡ once-put s w out
 
 abbrev pub SentUnless : Bool → Local → Sending → Outcome → Type 0
 SentUnless true s w o = o ≡ refuses s (carrier-refusal Full) []
