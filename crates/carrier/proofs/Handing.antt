@@ -76,9 +76,9 @@ module _ {C : Type 0} (waiting : C → List FrameM) (full : List FrameM → ℕ 
       let a : Added (waiting mid) h (waiting new) = accepted (λ _. Added (waiting mid) h (waiting new)) (λ _. new ≡ mid) is-ok is in
       holds (λ _. Added (waiting old) f (waiting new)) Q is-ok (added-worse (waiting old) (waiting new) f h worse (subst (λ c. Added (waiting c) h (waiting new)) same a))
 
-  pub handed-here : (adds : C → FrameM → C → Type 0) (used harm : Harm) → used ≡ harm → Some h ≡ harmed used f → Cases r (λ _. adds mid h new) (λ _. new ≡ mid) → HandedTo adds old (harmed harm f) new
+  pub handed-here : (adds : C → FrameM → C → Type 0) (used harm : Harm) → used ≡ harm → Some h ≡ harmed used f → Cases r (λ _. adds mid h new) (λ _. Unit {0}) → HandedTo adds old (harmed harm f) new
   handed-here adds used harm e made is =
-      let a : adds mid h new = accepted (λ _. adds mid h new) (λ _. new ≡ mid) is-ok is in
+      let a : adds mid h new = accepted (λ _. adds mid h new) (λ _. Unit {0}) is-ok is in
       subst (λ o. HandedTo adds old o new) (made ∙ ap (λ x. harmed x f) e) (subst (λ c. adds c h new) same a)
 
   pub exactly-here : (P : Type 0) (Q : CarrierFault → Type 0) → P → Cases r (λ _. P) Q

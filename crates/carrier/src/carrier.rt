@@ -29,7 +29,7 @@ pub trait Carrier {
     fn put(&mut self, frame: &Frame) -> Result<(), CarrierFault>
         ensures answer { λ r. ⌜ r ≡ putting (full (waiting (now (self .entry))) (groups-of (view (now (frame .entry))))) ⌝ }
         ensures added { λ r. ⌜ Cases r (λ _. Added (waiting (now (self .entry))) (view (now (frame .entry))) (waiting (now (self .exit)))) (λ _. now (self .exit) ≡ now (self .entry)) ⌝ }
-        ensures exactly { λ r. ⌜ Cases r (λ _. adds (now (self .entry)) (view (now (frame .entry))) (now (self .exit))) (λ _. now (self .exit) ≡ now (self .entry)) ⌝ };
+        ensures exactly { λ r. ⌜ Cases r (λ _. adds (now (self .entry)) (view (now (frame .entry))) (now (self .exit))) (λ _. Unit {0}) ⌝ };
 
     // The oldest frame, or none exactly when none waits.
     fn take(&mut self) -> Option<Frame>
