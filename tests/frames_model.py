@@ -1,5 +1,5 @@
 #!/usr/bin/env python3
-"""A second opinion on frames: the commands of accbox, written anew from the rules.
+"""A second opinion on frames and carriers: the commands of accbox, written anew from the rules.
 
 Usage: frames_model.py [SCRIPT]
 
@@ -19,6 +19,12 @@ bytes elsewhere. The first and the last character are control, all others data.
 
 A reply is one group of control characters: eight bytes 0x5C; 0xA5, the kind (0x00 for ACK, 0x80
 for NAK), the ID, three zeros and the link check, low byte first; eight bytes 0xFD; zeros.
+
+A carrier has room for eight frames and gives the oldest one first. Before it stands a plan of up
+to 64 harms, and each frame that is accepted uses up the oldest of them: pass it, drop it, or flip
+one of its bytes by a mask that is not zero. A flip within a frame that is broken already drops it;
+a flip outside the frame, and an empty plan, pass it as it is. A frame that finds no room is refused
+and uses up nothing.
 """
 
 import sys
@@ -28,6 +34,8 @@ DATA, CONTROL = 1, 2
 START, END, LEAD, TAG = 0xFB, 0xFD, 0x5C, 0xA5
 KINDS = {0x00: "ACK", 0x80: "NAK"}
 UNTOUCHED = 0xEE
+ROOM_FOR_FRAMES = 8
+ROOM_FOR_HARMS = 64
 LARGEST_BUFFER = 1048576
 LARGEST_NUMBER = 2**64 - 1
 
@@ -189,6 +197,70 @@ class Frame:
         return size
 
 
+# Carriers
+
+
+def is_broken(frame):
+    try:
+        frame.read()
+    except Refused:
+        return True
+    return False
+
+
+class Carrier:
+    """Frames on their way, and the plan that harms them as they are put.
+
+    A harm is a function from a frame to the list of what is left of it: one frame or none.
+    """
+
+    def __init__(self):
+        self.frames = []
+        self.harms = []
+
+    def plan(self, harm):
+        if len(self.harms) == ROOM_FOR_HARMS:
+            raise Refused(19, "setting", 0)
+        self.harms.append(harm)
+        return len(self.harms)
+
+    def put(self, frame):
+        if len(self.frames) == ROOM_FOR_FRAMES:
+            raise Refused(5, "carrier", 0)
+        harm = self.harms.pop(0) if self.harms else passing
+        self.frames += harm(Frame(frame.data, frame.marks))
+
+    def take(self):
+        if not self.frames:
+            raise Refused(6, "carrier", 0)
+        return self.frames.pop(0)
+
+
+def passing(frame):
+    return [frame]
+
+
+def dropping(frame):
+    return []
+
+
+def flipping(place, mask):
+    """The harm that flips one byte by this mask."""
+    if mask == 0:
+        raise Refused(18, "setting", 0)
+
+    def harm(frame):
+        if place >= len(frame.data):
+            return [frame]
+        if is_broken(frame):
+            return []
+        data = list(frame.data)
+        data[place] ^= mask
+        return [Frame(data, frame.marks)]
+
+    return harm
+
+
 # Words
 
 
@@ -231,15 +303,21 @@ def hex_text(data):
 
 
 class Box:
-    """The frame that a script works on."""
+    """The frame that a script works on, and the carrier that it plays with."""
 
     def __init__(self):
         self.frame = None
+        self.carrier = None
 
     def current(self):
         if self.frame is None:
             raise NotUnderstood("there is no frame yet")
         return self.frame
+
+    def made_carrier(self):
+        if self.carrier is None:
+            raise NotUnderstood("there is no carrier yet")
+        return self.carrier
 
     def seal(self, ident, second, third):
         ident = number(ident, 255)
@@ -303,23 +381,58 @@ class Box:
             for c, mark in enumerate(frame.marks)
         ]
 
+    def new_carrier(self, kind):
+        if kind != "straight":
+            raise NotUnderstood(f"{kind!r} is no carrier")
+        self.carrier = Carrier()
+        return [f"carrier {kind}"]
+
+    def plan_harm(self, harm):
+        return [f"plan holds {self.made_carrier().plan(harm)}"]
+
+    def plan_word(self, word):
+        if word not in ("pass", "drop"):
+            raise NotUnderstood(f"{word!r} is no harm")
+        return self.plan_harm(passing if word == "pass" else dropping)
+
+    def plan_flip(self, word, place, mask):
+        if word != "flip":
+            raise NotUnderstood(f"{word!r} takes no place and no mask")
+        place, mask = number(place), hex_byte(mask)
+        self.made_carrier()
+        return self.plan_harm(flipping(place, mask))
+
+    def put(self):
+        frame = self.current()
+        self.made_carrier().put(frame)
+        return ["put"]
+
+    def take(self):
+        self.frame = self.made_carrier().take()
+        return ["taken"]
+
     def run(self, words):
         """The lines that answer one command."""
         commands = {
-            "seal": (self.seal, 3),
-            "reply": (self.reply, 2),
-            "raw": (self.raw, 2),
-            "flip": (self.flip, 2),
-            "mark": (self.mark, 2),
-            "read": (self.read, 0),
-            "unpack": (self.unpack, 1),
-            "show": (self.show, 0),
+            "seal": {3: self.seal},
+            "reply": {2: self.reply},
+            "raw": {2: self.raw},
+            "flip": {2: self.flip},
+            "mark": {2: self.mark},
+            "read": {0: self.read},
+            "unpack": {1: self.unpack},
+            "show": {0: self.show},
+            "carrier": {1: self.new_carrier},
+            "plan": {1: self.plan_word, 3: self.plan_flip},
+            "put": {0: self.put},
+            "take": {0: self.take},
         }
         if words[0] not in commands:
             raise NotUnderstood(f"{words[0]!r} is no command")
-        command, count = commands[words[0]]
-        if len(words) - 1 != count:
-            raise NotUnderstood(f"{words[0]} takes {count} words, not {len(words) - 1}")
+        by_count = commands[words[0]]
+        if len(words) - 1 not in by_count:
+            raise NotUnderstood(f"{words[0]} does not take {len(words) - 1} words")
+        command = by_count[len(words) - 1]
         try:
             return command(*words[1:])
         except Refused as refusal:
