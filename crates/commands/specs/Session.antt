@@ -1,4 +1,4 @@
--- What each command answers, and what it makes of the frame that a session works on.
+-- What each command answers, and what it makes of a session: of the frame that it works on and of its carrier.
 use Prim.Native.Nat.{ℕ, _/_}
 use mathlib.Core.Bool.{cond}
 use mathlib.Core.List.{List}
@@ -30,8 +30,10 @@ use Rattle.terms.specs.declared.fault.ShapeFault.the-variants as shape
 use Rattle.terms.specs.declared.fault.UnpackFault.{UnpackFault}
 use Rattle.frame.specs.declared.frame.Frame.{Frame}
 use Rattle.terms.specs.declared.mark.Mark.{Mark}
+use Rattle.commands.specs.Carrying.{CarrierM, carrying, unused, on-carrier, plan-answer, plan-after, put-says, put-leaves, take-answer, take-after, take-frame}
 use Rattle.commands.specs.declared.answer.Answer.{Answer}
-use Rattle.commands.specs.declared.answer.Answer.the-variants.{Sealed, Made, Framed, Flipped, Marked, Outside, Good, Unpacked, NoPacket, Characters, Refused}
+use Rattle.commands.specs.declared.answer.Answer.the-variants.{Sealed, Made, Framed, Flipped, Marked, Outside, Good, Unpacked, NoPacket, Characters, Carrier, Refused}
+use Rattle.commands.specs.declared.command.CarrierKind.{CarrierKind}
 use Rattle.commands.specs.declared.command.Command.{Command}
 use Rattle.commands.specs.declared.command.Command.the-variants as command
 use Rattle.commands.specs.declared.command.Load.{Load}
@@ -43,6 +45,10 @@ use Rattle.commands.specs.declared.trouble.Trouble.the-variants as trouble
 -- the frame that a session works on
 abbrev pub held : Session → Option FrameM
 held s = mapped view (s .frame)
+
+-- what its carrier holds
+abbrev pub carried : Session → Option CarrierM
+carried s = mapped carrying (s .carrier)
 
 -- the new frame, or the old one where something is wrong
 abbrev pub unless : {E : Type 0} → Option E → FrameM → Option FrameM → Option FrameM
@@ -110,22 +116,44 @@ abbrev pub show-answer : Option Frame → Result Answer Trouble
 show-answer None = Err trouble.NoFrame
 show-answer (Some f) = Ok (Characters f)
 
+-- a new carrier in place of the old one, for which there may be no memory
+abbrev pub CarrierSays : CarrierKind → Session → Result Answer Trouble → Session → Type 0
+CarrierSays kind old (Ok a) new = (a ≡ Carrier kind) × (carried new ≡ Some unused) × (new .frame ≡ old .frame)
+CarrierSays kind old (Err t) new = (t ≡ trouble.Memory) × (new ≡ old)
+
 -- a command on the old session gives this answer and leaves the new one
 abbrev pub Ran : Command → Session → Result Answer Trouble → Session → Type 0
 Ran (command.Seal id load) old r new =
     (r ≡ Ok (seal-answer (load-fault load) id (length (load-bytes load))))
     × (held new ≡ unless (load-fault load) (sealed id (load-bytes load)) (held old))
-Ran (command.Reply reply) old r new = (r ≡ Ok (Made reply)) × (held new ≡ Some (reply-frame reply))
+    × (new .carrier ≡ old .carrier)
+Ran (command.Reply reply) old r new = (r ≡ Ok (Made reply)) × (held new ≡ Some (reply-frame reply)) × (new .carrier ≡ old .carrier)
 Ran (command.Raw bytes marks) old r new =
     let fault = parts-fault (length (vec-items bytes)) (length (vec-items marks)) in
     (r ≡ raw-answer fault (length (vec-items bytes)) (length (vec-items marks)))
     × (held new ≡ unless fault (parted (vec-items bytes) (vec-items marks)) (held old))
+    × (new .carrier ≡ old .carrier)
 Ran (command.Flip place mask) old r new =
     (r ≡ on-frame (held old) (flip-answer place mask))
     × (held new ≡ mapped (λ f. flipped f place mask) (held old))
+    × (new .carrier ≡ old .carrier)
 Ran (command.Mark c m) old r new =
     (r ≡ on-frame (held old) (mark-answer c m))
     × (held new ≡ mapped (λ f. marked f c m) (held old))
+    × (new .carrier ≡ old .carrier)
 Ran command.Read old r new = (r ≡ on-frame (held old) (λ f. read-answer (reading f))) × (new ≡ old)
 Ran (command.Unpack size) old r new = UnpackSays (held old) size r × (new ≡ old)
 Ran command.Show old r new = (r ≡ show-answer (old .frame)) × (new ≡ old)
+Ran (command.Carrier kind) old r new = CarrierSays kind old r new
+Ran (command.Plan harm) old r new =
+    (r ≡ on-carrier (carried old) (plan-answer harm))
+    × (carried new ≡ mapped (plan-after harm) (carried old))
+    × (new .frame ≡ old .frame)
+Ran command.Put old r new =
+    (r ≡ put-says (held old) (carried old))
+    × (carried new ≡ put-leaves (held old) (carried old))
+    × (new .frame ≡ old .frame)
+Ran command.Take old r new =
+    (r ≡ on-carrier (carried old) take-answer)
+    × (carried new ≡ mapped take-after (carried old))
+    × (held new ≡ take-frame (carried old) (held old))

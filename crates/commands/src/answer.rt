@@ -1,4 +1,5 @@
 // What a command is answered by.
+use crate::command::CarrierKind;
 use crate::hex::Hex;
 use crate::hex::HexDisplay;
 use frame::frame::Frame;
@@ -22,6 +23,10 @@ pub enum Answer {
     Unpacked { size: usize, buffer: Vec<u8> },
     NoPacket,
     Characters(Frame),
+    Carrier(CarrierKind),
+    Planned { harms: usize },
+    Put,
+    Taken,
     Refused(Refusal),
 }
 
@@ -29,6 +34,12 @@ fn kind_name(kind: ReplyKind) -> &'static str {
     match kind {
         ReplyKind::Ack => "ACK",
         ReplyKind::Nak => "NAK",
+    }
+}
+
+fn carrier_name(kind: CarrierKind) -> &'static str {
+    match kind {
+        CarrierKind::Straight => "straight",
     }
 }
 
@@ -103,6 +114,13 @@ pub impl fmt::Display for Answer as AnswerDisplay {
             }
             Answer::NoPacket => f.write_str("not a packet"),
             Answer::Characters(frame) => write_characters(frame, f),
+            Answer::Carrier(kind) => {
+                let name = carrier_name(*kind);
+                write!(f, "carrier {name}")
+            }
+            Answer::Planned { harms } => write!(f, "plan holds {harms}"),
+            Answer::Put => f.write_str("put"),
+            Answer::Taken => f.write_str("taken"),
             Answer::Refused(refusal) => write_refusal(refusal, f),
         }
     }

@@ -1,4 +1,5 @@
 // What a line of a script asks for.
+use carrier::harm::Harm;
 use terms::mark::Mark;
 use terms::reply::Reply;
 
@@ -12,6 +13,10 @@ pub enum Command {
     Read,
     Unpack { size: usize },
     Show,
+    Carrier(CarrierKind),
+    Plan(Harm),
+    Put,
+    Take,
 }
 
 // What is put into a packet.
@@ -21,4 +26,10 @@ pub enum Load {
     Filled { size: usize, fill: u8 },
     // the packet's own bytes
     Bytes(Vec<u8>),
+}
+
+// What kind of carrier is made.
+#[derive(Clone, Copy)]
+pub enum CarrierKind {
+    Straight,
 }

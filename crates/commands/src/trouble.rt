@@ -7,6 +7,7 @@ use std::fmt;
 #[derive(Clone, Copy)]
 pub enum Trouble {
     NoFrame,
+    NoCarrier,
     // a raw frame of so many bytes
     Bytes { found: usize },
     // a raw frame of so many marks
@@ -27,6 +28,9 @@ pub impl fmt::Display for Trouble as TroubleDisplay {
         match self {
             Trouble::NoFrame => f.write_str(
                 "there is no frame yet: make one by seal, reply or raw",
+            ),
+            Trouble::NoCarrier => f.write_str(
+                "there is no carrier yet: make one by carrier straight",
             ),
             Trouble::Bytes { found } => {
                 write!(
