@@ -30,12 +30,14 @@ pub(crate) enum Part {
     PacketBytes,
     FrameBytes,
     Marks,
-    ReplyKind,
+    Kind,
     Place,
     Mask,
     Character,
     Mark,
     Size,
+    Carrier,
+    Harm,
 }
 
 // What a word should have been.
@@ -47,6 +49,8 @@ pub(crate) enum Wanted {
     Bytes,
     Marks,
     ReplyKind,
+    CarrierKind,
+    Harm,
 }
 
 pub impl From<AllocError> for Why as WhyFromAlloc {
@@ -65,12 +69,14 @@ pub impl fmt::Display for Part as PartDisplay {
                 Part::PacketBytes => "packet bytes",
                 Part::FrameBytes => "frame bytes",
                 Part::Marks => "marks",
-                Part::ReplyKind => "kind",
+                Part::Kind => "kind",
                 Part::Place => "place",
                 Part::Mask => "mask",
                 Part::Character => "character",
                 Part::Mark => "mark",
                 Part::Size => "size",
+                Part::Carrier => "carrier",
+                Part::Harm => "harm",
             },
         )
     }
@@ -85,6 +91,8 @@ pub impl fmt::Display for Wanted as WantedDisplay {
             Wanted::Bytes => f.write_str("pairs of hex digits"),
             Wanted::Marks => f.write_str("digits 0 to 3"),
             Wanted::ReplyKind => f.write_str("ack or nak"),
+            Wanted::CarrierKind => f.write_str("straight"),
+            Wanted::Harm => f.write_str("pass, drop or flip"),
         }
     }
 }

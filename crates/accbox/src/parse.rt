@@ -5,6 +5,8 @@ use crate::misread::Wanted;
 use crate::misread::Why;
 use crate::words::Words;
 use crate::words::decimal;
+use carrier::harm::Harm;
+use commands::command::CarrierKind;
 use commands::command::Command;
 use commands::command::Load;
 use std::alloc::Global;
@@ -32,13 +34,39 @@ fn load(heap: Global, words: &mut Words) -> Result<Load, Why> {
 }
 
 fn reply_kind(words: &mut Words) -> Result<ReplyKind, Why> {
-    let part = Part::ReplyKind;
+    let part = Part::Kind;
     match words.word(part)? {
         "ack" => Ok(ReplyKind::Ack),
         "nak" => Ok(ReplyKind::Nak),
         _ => Err(Why::Wrong {
             part,
             wanted: Wanted::ReplyKind,
+        }),
+    }
+}
+
+fn carrier_kind(words: &mut Words) -> Result<CarrierKind, Why> {
+    match words.word(Part::Kind)? {
+        "straight" => Ok(CarrierKind::Straight),
+        _ => Err(Why::Wrong {
+            part: Part::Carrier,
+            wanted: Wanted::CarrierKind,
+        }),
+    }
+}
+
+fn harm(words: &mut Words) -> Result<Harm, Why> {
+    let part = Part::Harm;
+    match words.word(part)? {
+        "pass" => Ok(Harm::Pass),
+        "drop" => Ok(Harm::Drop),
+        "flip" => Ok(Harm::Flip {
+            place: words.number(Part::Place, usize::MAX)?,
+            mask: words.byte(Part::Mask)?,
+        }),
+        _ => Err(Why::Wrong {
+            part,
+            wanted: Wanted::Harm,
         }),
     }
 }
@@ -95,6 +123,10 @@ fn named(heap: Global, words: &mut Words) -> Result<Command, Why> {
         "read" => Ok(Command::Read),
         "unpack" => unpack(words),
         "show" => Ok(Command::Show),
+        "carrier" => Ok(Command::Carrier(carrier_kind(words)?)),
+        "plan" => Ok(Command::Plan(harm(words)?)),
+        "put" => Ok(Command::Put),
+        "take" => Ok(Command::Take),
         _ => Err(Why::NoCommand),
     }
 }

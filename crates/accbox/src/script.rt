@@ -94,8 +94,8 @@ mod tests {
     use std::alloc::AllocError;
     use std::test::*;
 
-    // Lines, and what is said of them where there is no frame.
-    const LINES: [(&str, &str); 16] = [
+    // Lines, and what is said of them where there is neither a frame nor a carrier.
+    const LINES: [(&str, &str); 23] = [
         ("flop", "\"flop\" is no command"),
         ("Read", "\"Read\" is no command"),
         ("read x # y", "read takes no more words, but here is \"x\""),
@@ -126,6 +126,19 @@ mod tests {
         (
             "unpack 1048577\r",
             "size must be 0 to 1048576, not \"1048577\"",
+        ),
+        ("carrier", "carrier lacks its kind"),
+        ("carrier bent", "carrier must be straight, not \"bent\""),
+        ("plan", "plan lacks its harm"),
+        ("plan lose", "harm must be pass, drop or flip, not \"lose\""),
+        ("plan flip 3", "plan lacks its mask"),
+        (
+            "put",
+            "there is no frame yet: make one by seal, reply or raw",
+        ),
+        (
+            "take",
+            "there is no carrier yet: make one by carrier straight",
         ),
     ];
 
