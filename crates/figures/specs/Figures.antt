@@ -11,7 +11,7 @@ use Rattle.terms.specs.declared.mark.Mark.the-variants.{Data}
 use Rattle.terms.specs.declared.reply.Reply.{Reply}
 use Rattle.frame.specs.Form.{sealed, kind-byte, reply-frame}
 use Rattle.frame.specs.Frame.{FrameM, byte-at, parted}
-use Rattle.link.specs.Books.{released-by}
+use Rattle.link.specs.Totals.{released-by}
 use Rattle.link.specs.End.{EndM, fresh, ack}
 use Rattle.link.specs.Outcome.{Outcome, number-of}
 use Rattle.link.specs.Rules.{arriving}

@@ -32,7 +32,7 @@ use Rattle.link.specs.End.{EndM, cursor-id, distance, advance, clear-reply, na
 use Rattle.link.specs.Outcome.{Local, Outcome, number-of}
 use Rattle.link.specs.Rules.{offering, rewinding, counting, Dispatches, arriving, arriving-from}
 use Rattle.link.specs.Runs.{Call, offer, dispatch, late, outstanding, arrive, Fullness, Does}
-use Rattle.link.specs.Books.{taken-by, handed-by, released-by}
+use Rattle.link.specs.Totals.{taken-by, handed-by, released-by}
 use Rattle.link.proofs.Cases.{offer-cases, late-cases, dispatch-cases, frame-cases}
 use Rattle.link.proofs.Flight.{Packed, packed}
 use Rattle.link.proofs.Direction

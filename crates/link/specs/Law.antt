@@ -6,7 +6,7 @@ use lib.ListN.{length}
 use Rattle.std.specs.shelf.Lists.{All}
 use Rattle.link.specs.Outcome.{number-of}
 use Rattle.link.specs.Runs.{Event, PairM, seen-by, Fullness, Run}
-use Rattle.link.specs.Books.{all-taken, all-handed, all-released, other}
+use Rattle.link.specs.Totals.{all-taken, all-handed, all-released, other}
 use Rattle.link.specs.declared.side.Side.{Side}
 
 -- one direction: the packets taken at the near end, those handed up at the far end, how many the near end released, and how many it holds

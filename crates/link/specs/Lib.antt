@@ -2,6 +2,6 @@ pub mod End
 pub mod Outcome
 pub mod Rules
 pub mod Runs
-pub mod Books
+pub mod Totals
 pub mod Law
 pub mod Worked

@@ -1,6 +1,6 @@
 // The worked run of the rules, and the law that holds of every run.
 ghost use mathlib.Core.Path.{_≡_};
-ghost use Rattle.link.specs.Books.{counts};
+ghost use Rattle.link.specs.Totals.{counts};
 ghost use Rattle.link.specs.Law.{Law};
 ghost use Rattle.link.specs.Runs.{Run, fresh-pair};
 ghost use Rattle.link.specs.Worked.{worked, worked-pair};
