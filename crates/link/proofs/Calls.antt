@@ -22,11 +22,12 @@ use Rattle.terms.specs.declared.reply.ReplyKind.the-variants.{Ack, Nak}
 use Rattle.frame.specs.Form.{sealed, reply-frame}
 use Rattle.frame.specs.Frame.{FrameM, Grouped}
 use Rattle.frame.specs.Packet.{IsPacket}
-use Rattle.frame.specs.Reading.{reading, Good, Broken, Says}
+use Rattle.frame.specs.Reading.{reading, Broken, Says}
 use Rattle.frame.specs.Reserved.{cleared}
 use Rattle.frame.proofs.Copies.{front-is}
 use Rattle.frame.proofs.Protocols.{sealed-cleared}
 use Rattle.frame.proofs.Readings.{reads-sealed, reads-reply, reading-says}
+use Rattle.carrier.proofs.Harms.{says-good}
 use Rattle.carrier.specs.Carrying.{Added, whole, broken, lost}
 use Rattle.link.specs.End.{EndM, cursor-id, distance, advance, clear-reply, nak, accept, object, release, rewind-on}
 use Rattle.link.specs.Outcome.{Local, Outcome, number-of}
@@ -72,8 +73,7 @@ module _ {X : Type 0} (g : FrameM → List X) (broken-holds : (f : FrameM) (e : 
   joined-push (e ∷ w) f = ap (λ l. g e ++ l) (joined-push w f) ∙ sym (append-assoc (g e) (joined g w) (g f))
 
   unless-good : (f : FrameM) → Broken f → (r : Result Content FrameFault) → reading f ≡ r → Says f r → g f ≡ []
-  unless-good f b (Ok (content.Packet id n)) e (long, is, same) = absurd (b (Good.packet id (cleared (f .bytes)) is same))
-  unless-good f b (Ok (content.Reply r)) e same = absurd (b (Good.reply r same))
+  unless-good f b (Ok x) e says = absurd (b (says-good f x says))
   unless-good f b (Err x) e _ = broken-holds f x e
 
   broken-none : (f : FrameM) (groups : ℕ) → Grouped f groups → Broken f → g f ≡ []

@@ -23,21 +23,13 @@ use Rattle.link.specs.Rules
 use Rattle.link.specs.Runs.{PairM, fresh-pair, Fullness, Run, start, next, seen-by}
 use Rattle.link.specs.Worked.{filled, buffer, worked, worked-pair}
 
-filled-7 : packet-fault (filled 7) ≡ None
+no-fault : (b : ℕ) → packet-fault (filled b) ≡ None
 unfolding lowest-wrong reserved
-filled-7 = refl
+no-fault b = refl
 
-filled-8 : packet-fault (filled 8) ≡ None
-unfolding lowest-wrong reserved
-filled-8 = refl
-
-is-7 : IsPacket (filled 7)
+is-packet : (b : ℕ) → IsPacket (filled b)
 unfolding cleared reserved
-is-7 = record { long = refl; clear = refl }
-
-is-8 : IsPacket (filled 8)
-unfolding cleared reserved
-is-8 = record { long = refl; clear = refl }
+is-packet b = record { long = refl; clear = refl }
 
 -- the ends, call by call
 abbrev pair : EndM → EndM → List FrameM → List FrameM → PairM
@@ -98,18 +90,18 @@ module _ (there back : Fullness) (empty-there : (groups : ℕ) → there [] grou
 
   pub worked-runs : Run there back fresh-pair worked worked-pair
   worked-runs =
-      next {t = pair (hold (filled 7) fresh) fresh [] []} (record { does = ap (λ x. Rules.offering-unless x (seen-by A fresh-pair) (filled 7)) (sym filled-7); stays = refl })
-      (next {t = pair a2 fresh [] []} (record { does = ap (λ x. Rules.offering-unless x (seen-by A (pair (hold (filled 7) fresh) fresh [] [])) (filled 8)) (sym filled-8); stays = refl })
+      next {t = pair (hold (filled 7) fresh) fresh [] []} (record { does = ap (λ x. Rules.offering-unless x (seen-by A fresh-pair) (filled 7)) (sym (no-fault 7)); stays = refl })
+      (next {t = pair a2 fresh [] []} (record { does = ap (λ x. Rules.offering-unless x (seen-by A (pair (hold (filled 7) fresh) fresh [] [])) (filled 8)) (sym (no-fault 8)); stays = refl })
       (next {t = pair (advance a2) fresh [] []} (record { does = puts there empty-there _ _ _ refl (lost refl); stays = refl })
       (next {t = pair a4 fresh (f1 ∷ []) []} (record { does = puts there empty-there _ _ _ refl (whole refl); stays = refl })
-      (next {t = pair a4 b5 [] []} (record { does = reads-packet (seen-by B (pair a4 fresh (f1 ∷ []) [])) f1 1 (filled 8) is-8 refl; stays = refl })
+      (next {t = pair a4 b5 [] []} (record { does = reads-packet (seen-by B (pair a4 fresh (f1 ∷ []) [])) f1 1 (filled 8) (is-packet 8) refl; stays = refl })
       (next {t = pair a4 (clear-reply b5) [] (nak-255 ∷ [])} (record { does = puts back empty-back _ _ _ refl (whole refl); stays = refl })
       (next {t = pair a7 (clear-reply b5) [] []} (record { does = reads-a-reply (seen-by A (pair a4 (clear-reply b5) [] (nak-255 ∷ []))) nak-255 (nak 255) refl; stays = refl })
       (next {t = pair (advance a7) (clear-reply b5) (f0 ∷ []) []} (record { does = puts there empty-there _ _ _ refl (whole refl); stays = refl })
-      (next {t = pair (advance a7) b9 [] []} (record { does = ap (λ bytes. Outcome.becomes (record { end = clear-reply b5; out = []; into = [] }) b9 (Outcome.handed-up 0 128) (bytes ++ replicate 512 0xEE)) (sym (sealed-cleared 0 (filled 7) is-7)) ∙ reads-packet (seen-by B (pair (advance a7) (clear-reply b5) (f0 ∷ []) [])) f0 0 (filled 7) is-7 refl; stays = refl })
+      (next {t = pair (advance a7) b9 [] []} (record { does = ap (λ bytes. Outcome.becomes (record { end = clear-reply b5; out = []; into = [] }) b9 (Outcome.handed-up 0 128) (bytes ++ replicate 512 0xEE)) (sym (sealed-cleared 0 (filled 7) (is-packet 7))) ∙ reads-packet (seen-by B (pair (advance a7) (clear-reply b5) (f0 ∷ []) [])) f0 0 (filled 7) (is-packet 7) refl; stays = refl })
       (next {t = pair a10 b9 [] []} (record { does = refl; stays = refl })
       (next {t = pair (advance a10) b9 (f0 ∷ []) []} (record { does = puts there empty-there _ _ _ refl (whole refl); stays = refl })
-      (next {t = pair (advance a10) b12 [] []} (record { does = reads-packet (seen-by B (pair (advance a10) b9 (f0 ∷ []) [])) f0 0 (filled 7) is-7 refl; stays = refl })
+      (next {t = pair (advance a10) b12 [] []} (record { does = reads-packet (seen-by B (pair (advance a10) b9 (f0 ∷ []) [])) f0 0 (filled 7) (is-packet 7) refl; stays = refl })
       (next {t = pair (advance a10) (clear-reply b12) [] (nak-0 ∷ [])} (record { does = puts back empty-back _ _ _ refl (whole refl); stays = refl })
       (next {t = worked-pair} (record { does = reads-a-reply (seen-by A (pair (advance a10) (clear-reply b12) [] (nak-0 ∷ []))) nak-0 (nak 0) refl; stays = refl })
       (next {t = worked-pair} (record { does = refl; stays = refl })
