@@ -1,4 +1,6 @@
 // Reads a script of commands on frames, runs it and writes an answer for each command.
+#![tactic(auto)]
+
 mod hex;
 mod marks;
 mod misread;

@@ -1,4 +1,6 @@
 // The commands of a script: what they ask, what they do and what they answer.
+#![tactic(auto)]
+
 pub mod answer;
 pub mod command;
 mod hex;

@@ -1,4 +1,6 @@
 // The worked figures: those that are proved, as one table, and those that are run, each with what is expected and what was found.
+#![tactic(auto)]
+
 ghost use Rattle.std.specs.Prelude.{◌≡◌, length};
 ghost use Rattle.figures.specs.Figures.{figures, Hold};
 

@@ -1,4 +1,6 @@
 // Frames of a chiplet link: packets, checks, sealing and reading.
+#![tactic(auto)]
+
 pub mod frame;
 pub mod packet;
 mod room;

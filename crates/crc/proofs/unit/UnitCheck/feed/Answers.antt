@@ -3,8 +3,8 @@ use Rattle.crc.specs.Check.{run}
 use Rattle.crc.proofs.Inject.{run_lt, one_byte}
 use Rattle.crc.proofs.unit.UnitCheck.feed.Goals as goal
 
-pub overflow-cast-state : goal.overflow-cast-state
-overflow-cast-state c = search (rules, run_lt 7 0xA1 refl (lit< tt) c.args.self.now.state c.args.part.now (search rules))
+pub overflow_cast-state : goal.overflow_cast-state
+overflow_cast-state c = search (rules, run_lt 7 0xA1 refl (lit< tt) c.args.self.now.state c.args.part.now (search rules))
 
 pub returns : goal.returns
 returns c =
