@@ -15,7 +15,7 @@ WORD = re.compile(r'[^\s(){}.;,@"«»]+')
 SKIPPED = {".antt": re.compile(r"(?<!\S)--(?=\s|$)[^\n]*"), ".rt": re.compile(r'"(?:\\.|[^"\\])*"|//[^\n]*')}
 DECLARED = re.compile(r"\s*(?:(?:pub|abbrev|unfoldable|data|record|ruleset)\s+)*([^\s(){}.;,@]+)\s*(?:[{(][^{}()]*[)}]\s*)*:(.*)")
 # Local names of proofs, which no signature declares.
-LOCALS = ["broken-holds", "buffer-is", "bytes-is", "empty-there", "holds-none", "lead-is", "no-y", "trail-is", "way-b", "yes-x"]
+LOCALS = ["broken-holds", "empty-there", "holds-none", "no-y", "way-b", "yes-x"]
 
 
 def files():

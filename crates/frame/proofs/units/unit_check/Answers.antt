@@ -8,11 +8,11 @@ use Rattle.frame.proofs.units.unit_check.Goals.{then-at-eq0, else-at-eq0, then-a
 pub loop-g-preserved : goal.loop-g-preserved
 loop-g-preserved c =
     unit_more 8 0xA1 c.args.bytes.now c.args.unit c.loop-g.g c.if-at-eq0.lead c.if-at-bytes.trail
-    c.loop-g.check.state c.feed-zeros.new.self.state c.feed.new.self.state c.feed-zeros-in-loop-g.new.self.state
+    c.loop-g.check.state c.feed_zeros.new.self.state c.feed.new.self.state c.feed_zeros-in-loop-g.new.self.state
     (omega arith) (omega arith)
-    (elim c.if-at-eq0.branch [ then-at-eq0 w ↦ inl (omega arith, w.lead_is) | else-at-eq0 w ↦ inr (omega arith, w.lead_is) ])
-    (elim c.if-at-bytes.branch [ then-at-bytes w ↦ inl (omega arith, w.trail_is) | else-at-bytes w ↦ inr (omega arith, w.trail_is) ])
-    c.loop-g.invariant c.feed-zeros.ensures c.feed.ensures.after c.feed-zeros-in-loop-g.ensures
+    (elim c.if-at-eq0.branch [ then-at-eq0 w ↦ inl (omega arith, w.lead-is) | else-at-eq0 w ↦ inr (omega arith, w.lead-is) ])
+    (elim c.if-at-bytes.branch [ then-at-bytes w ↦ inl (omega arith, w.trail-is) | else-at-bytes w ↦ inr (omega arith, w.trail-is) ])
+    c.loop-g.invariant c.feed_zeros.ensures c.feed.ensures.after c.feed_zeros-in-loop-g.ensures
 
 pub returns : goal.returns
 unfolding unit_check

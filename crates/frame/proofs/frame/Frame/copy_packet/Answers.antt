@@ -5,7 +5,7 @@ use Rattle.frame.specs.Reserved.{reserved, cleared}
 use Rattle.frame.proofs.Copies.{over_more, over_all}
 use Rattle.frame.proofs.Placed.{cleared_at, cleared_long}
 use Rattle.frame.proofs.frame.Frame.copy_packet.Goals as goal
-use Rattle.frame.proofs.frame.Frame.copy_packet.Goals.{then-is-reserved, else-is-reserved}
+use Rattle.frame.proofs.frame.Frame.copy_packet.Goals.{then-is_reserved, else-is_reserved}
 
 pub loop-place-preserved : goal.loop-place-preserved
 loop-place-preserved c =
@@ -14,11 +14,11 @@ loop-place-preserved c =
     let e = c.bytes-bytes.ensures in
     let long : length c.bytes-bytes.result.now ≡ length xs = ap length e in
     let here : p < length xs = omega arith in
-    let asked : c.is-reserved.result ≡ reserved (length xs) p = c.is-reserved.ensures ∙ ap (λ n. reserved n p) long in
-    let is : c.if-is-reserved.buffer ≡ get_or (cleared xs) p 0 =
-    elim c.if-is-reserved.branch [
-      | then-is-reserved w ↦ w.buffer_is ∙ sym (cond-true (reserved (length xs) p) 0 (get_or xs p 0) (sym asked ∙ w.if-is-reserved.true))
-      | else-is-reserved w ↦ w.buffer_is ∙ ap (λ (l : List ℕ). get_or l p 0) e ∙ sym (cond-false (reserved (length xs) p) 0 (get_or xs p 0) (sym asked ∙ w.if-is-reserved.false))
+    let asked : c.is_reserved.result ≡ reserved (length xs) p = c.is_reserved.ensures ∙ ap (λ n. reserved n p) long in
+    let is : c.if-is_reserved.buffer ≡ get_or (cleared xs) p 0 =
+    elim c.if-is_reserved.branch [
+      | then-is_reserved w ↦ w.buffer-is ∙ sym (cond-true (reserved (length xs) p) 0 (get_or xs p 0) (sym asked ∙ w.if-is_reserved.true))
+      | else-is_reserved w ↦ w.buffer-is ∙ ap (λ (l : List ℕ). get_or l p 0) e ∙ sym (cond-false (reserved (length xs) p) 0 (get_or xs p 0) (sym asked ∙ w.if-is_reserved.false))
     ]
     ∙ sym (cleared_at xs p here) in
     ap₂ (λ (l : List ℕ) v. set l p v) c.loop-place.invariant is

@@ -12,7 +12,7 @@ returns-then-bytes-unit c =
     let j = c.loop-unit.unit in
     let e = c.bytes-bytes.ensures in
     let is = ap (λ (bs : List ℕ). get_or bs (length bs - 14 + j) 0) e in
-    let wanted = c.unit-checks.ensures.each j c.loop-unit-test.true ∙ ap (λ (bs : List ℕ). unit_check bs j) e in
+    let wanted = c.unit_checks.ensures.each j c.loop-unit-test.true ∙ ap (λ (bs : List ℕ). unit_check bs j) e in
     found (unit_right f) 8 j c.loop-unit-test.true c.loop-unit.invariant (ne_eqb _ _ (λ z. c.if-bytes-unit.true (is ∙ z ∙ sym wanted)))
 
 pub loop-unit-preserved : goal.loop-unit-preserved
@@ -20,7 +20,7 @@ loop-unit-preserved c =
     let j = c.loop-unit.unit in
     let e = c.bytes-bytes.ensures in
     let is = ap (λ (bs : List ℕ). get_or bs (length bs - 14 + j) 0) e in
-    let wanted = c.unit-checks.ensures.each j c.loop-unit-test.true ∙ ap (λ (bs : List ℕ). unit_check bs j) e in
+    let wanted = c.unit_checks.ensures.each j c.loop-unit-test.true ∙ ap (λ (bs : List ℕ). unit_check bs j) e in
     below_more _ j c.loop-unit.invariant (eq-eqb _ _ (sym is ∙ c.if-bytes-unit.false ∙ wanted))
 
 pub returns : goal.returns

@@ -53,20 +53,20 @@ kind_is b k (inr (ne, is)) = is ∙ sym (cond-false (eqb b 0x80) Nak Ack (ne_eqb
 pub unreachable-requires : goal.unreachable-requires
 unreachable-requires c =
     let f = c.args.self.now in
-    c.in-default.ensures _ _ _ _ (part_is f (omega arith) c.in-ok-check-form.ensures)
+    c.in_default.ensures _ _ _ _ (part_is f (omega arith) c.in_ok-check_form.ensures)
 
 pub returns-then-word-high : goal.returns-then-word-high
 returns-then-word-high c =
-    answer c.args.self.now (omega arith) c.in-ok-check-form.ensures c.in-Some.word c.in-Some.ensures
-    c.if-word.kind c.reply_check.result c.to-le-bytes.result true
-    (kind_is c.in-Some.word.kind c.if-word.kind (elim c.if-word.branch [ then-word w ↦ inl (w.if-word.true, w.kind_is) | else-word w ↦ inr (w.if-word.false, w.kind_is) ]))
-    c.reply_check.ensures c.reply_check.type-inv c.to-le-bytes.ensures
+    answer c.args.self.now (omega arith) c.in_ok-check_form.ensures c.in-Some.word c.in-Some.ensures
+    c.if-word.kind c.reply_check.result c.to_le_bytes.result true
+    (kind_is c.in-Some.word.kind c.if-word.kind (elim c.if-word.branch [ then-word w ↦ inl (w.if-word.true, w.kind-is) | else-word w ↦ inr (w.if-word.false, w.kind-is) ]))
+    c.reply_check.ensures c.reply_check.type_inv c.to_le_bytes.ensures
     (and_from _ _ (eq-eqb _ _ c.if-word-low.true) (eq-eqb _ _ c.if-word-high.true))
 
 pub returns-else-word-low : goal.returns-else-word-low
 returns-else-word-low c =
-    answer c.args.self.now (omega arith) c.in-ok-check-form.ensures c.in-Some.word c.in-Some.ensures
-    c.if-word.kind c.reply_check.result c.to-le-bytes.result false
-    (kind_is c.in-Some.word.kind c.if-word.kind (elim c.if-word.branch [ then-word w ↦ inl (w.if-word.true, w.kind_is) | else-word w ↦ inr (w.if-word.false, w.kind_is) ]))
-    c.reply_check.ensures c.reply_check.type-inv c.to-le-bytes.ensures
+    answer c.args.self.now (omega arith) c.in_ok-check_form.ensures c.in-Some.word c.in-Some.ensures
+    c.if-word.kind c.reply_check.result c.to_le_bytes.result false
+    (kind_is c.in-Some.word.kind c.if-word.kind (elim c.if-word.branch [ then-word w ↦ inl (w.if-word.true, w.kind-is) | else-word w ↦ inr (w.if-word.false, w.kind-is) ]))
+    c.reply_check.ensures c.reply_check.type_inv c.to_le_bytes.ensures
     (elim c.else-word-low.either [ inl p ↦ and_right _ _ (ne_eqb _ _ p.1) | inr q ↦ and_left _ _ (ne_eqb _ _ q) ])

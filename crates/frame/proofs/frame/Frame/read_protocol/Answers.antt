@@ -9,4 +9,4 @@ pub returns : goal.returns
 returns c =
     let f = c.args.self.now in
     ap₂ (λ id n. Ok (Packet id n)) (view_byte f 1 (omega (arith, f.some))) (sym (grouped f).bytes_long)
-    ∙ protocol_answer (view f) c.in-ok-check-form.ensures c.in-ok-check-units.ensures
+    ∙ protocol_answer (view f) c.in_ok-check_form.ensures c.in_ok-check_units.ensures

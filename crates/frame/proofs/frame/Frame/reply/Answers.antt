@@ -26,5 +26,5 @@ returns c =
     ap₂ parted
     (fill_by_all (link_byte c.args.reply) (take 128 l.bytes) 128 0 (simp length-take (omega (arith, l.invariant.0)))
     (λ k h. get_or-take 128 l.bytes k 0 h ∙ l.invariant.1 k (omega arith)))
-    c.form-marks.ensures.front in
+    c.form_marks.ensures.front in
     record { made = made; reads = ap reading made ∙ reads_reply c.args.reply }

@@ -23,12 +23,12 @@ returns c =
     let same : body ≡ p = c.bytes-body.ensures in
     let body_is : IsPacket body = subst IsPacket (sym same) is in
     let sixteenth : 8 * (length body / 128) ≡ length body / 16 = omega (arith, (sized (length body) body_is.long).whole) in
-    let made : parted (take (128 * (length body / 128)) c.put-trailer.new.bytes) (take (8 * (length body / 128)) c.form-marks.result) ≡ sealed id p =
-    sealed_made id body c.copy-front.new.room _ c.unit-checks-checks.result c.put-trailer.new.bytes body_is
-    c.copy-front.ensures (λ j h. c.unit-checks-checks.ensures.each j h ∙ ap (λ n. unit_check (take n (set c.copy-front.new.room 1 id)) j) (sub-zero (length body))) c.put-trailer.ensures
-    (take (8 * (length body / 128)) c.form-marks.result) (128 * (length body / 128)) (length body / 16)
+    let made : parted (take (128 * (length body / 128)) c.put_trailer.new.bytes) (take (8 * (length body / 128)) c.form_marks.result) ≡ sealed id p =
+    sealed_made id body c.copy_front.new.room _ c.unit_checks-checks.result c.put_trailer.new.bytes body_is
+    c.copy_front.ensures (λ j h. c.unit_checks-checks.ensures.each j h ∙ ap (λ n. unit_check (take n (set c.copy_front.new.room 1 id)) j) (sub-zero (length body))) c.put_trailer.ensures
+    (take (8 * (length body / 128)) c.form_marks.result) (128 * (length body / 128)) (length body / 16)
     (groups_of (length body) body_is.long) refl
-    (ap (λ n. take n c.form-marks.result) sixteenth ∙ c.form-marks.ensures.front)
+    (ap (λ n. take n c.form_marks.result) sixteenth ∙ c.form_marks.ensures.front)
     ∙ ap (sealed id) same in
     record {
       made = made;

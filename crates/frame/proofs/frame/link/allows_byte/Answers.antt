@@ -35,6 +35,6 @@ pub returns-in-16-to-23 : goal.returns-in-16-to-23
 unfolding link_allows
 returns-in-16-to-23 c = grind (arith, nat_tests)
 
-pub returns-in-default : goal.returns-in-default
+pub returns-in_default : goal.returns-in_default
 unfolding link_allows
-returns-in-default c = grind (arith, nat_tests)
+returns-in_default c = grind (arith, nat_tests)

@@ -17,11 +17,11 @@ returns-in-10 c = grind (arith, nat_tests)
 
 pub returns-in-14 : goal.returns-in-14
 unfolding link_byte
-returns-in-14 c = let e = ap (λ (bs : List ℕ). get_or bs 0 0) c.to-le-bytes.ensures in grind (arith, nat_tests)
+returns-in-14 c = let e = ap (λ (bs : List ℕ). get_or bs 0 0) c.to_le_bytes.ensures in grind (arith, nat_tests)
 
 pub returns-in-15 : goal.returns-in-15
 unfolding link_byte
-returns-in-15 c = let e = ap (λ (bs : List ℕ). get_or bs 1 0) c.to-le-bytes.ensures in
+returns-in-15 c = let e = ap (λ (bs : List ℕ). get_or bs 1 0) c.to_le_bytes.ensures in
     let fits : c.args.check / 256 % 256 ≡ c.args.check / 256 = omega arith in
     grind (arith, nat_tests)
 
@@ -37,6 +37,6 @@ pub returns-in-16-to-23 : goal.returns-in-16-to-23
 unfolding link_byte
 returns-in-16-to-23 c = grind (arith, nat_tests)
 
-pub returns-in-default : goal.returns-in-default
+pub returns-in_default : goal.returns-in_default
 unfolding link_byte
-returns-in-default c = grind (arith, nat_tests)
+returns-in_default c = grind (arith, nat_tests)

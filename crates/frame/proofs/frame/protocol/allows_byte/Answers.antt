@@ -7,10 +7,10 @@ pub returns-in-0 : goal.returns-in-0
 unfolding protocol_allows
 returns-in-0 c = grind (arith, nat_tests)
 
-pub returns-in-default : goal.returns-in-default
+pub returns-in_default : goal.returns-in_default
 unfolding protocol_allows
-returns-in-default c = grind (arith, nat_tests)
+returns-in_default c = grind (arith, nat_tests)
 
-pub returns-in-default-2 : goal.returns-in-default-2
+pub returns-in_default-2 : goal.returns-in_default-2
 unfolding protocol_allows
-returns-in-default-2 c = grind (arith, nat_tests)
+returns-in_default-2 c = grind (arith, nat_tests)

@@ -14,7 +14,7 @@ loop-i-preserved c =
     trailed_more c.args.bytes.now c.args.size c.args.checks.now i c.loop-i.bytes c.if-i-lt8.bytes
     c.requires.room.0 c.requires.room.1 c.loop-i-test.true
     (elim c.if-i-lt8.branch [
-      | then-i-lt8 w ↦ w.bytes_is ∙ cond_below i 8 check 0xFD w.if-i-lt8.true
-      | else-i-lt8 w ↦ w.bytes_is ∙ cond_above i 8 check 0xFD 0xFD w.if-i-lt8.false refl
+      | then-i-lt8 w ↦ w.bytes-is ∙ cond_below i 8 check 0xFD w.if-i-lt8.true
+      | else-i-lt8 w ↦ w.bytes-is ∙ cond_above i 8 check 0xFD 0xFD w.if-i-lt8.false refl
     ])
     c.loop-i.invariant

@@ -8,7 +8,7 @@ use Rattle.frame.proofs.Copies.{groups_of}
 use Rattle.frame.proofs.Placed.{is_cleared, cleared_twice}
 use Rattle.frame.proofs.Protocols.{sized}
 use Rattle.frame.proofs.packet.Packet.filled.Goals as goal
-use Rattle.frame.proofs.packet.Packet.filled.Goals.{then-is-reserved, else-is-reserved}
+use Rattle.frame.proofs.packet.Packet.filled.Goals.{then-is_reserved, else-is_reserved}
 
 -- room whose front was filled
 filled_front : (bytes : List ℕ) (size fill : ℕ) → size ≤ length bytes → ((k : ℕ) → k < size → get_or bytes k 0 ≡ cond (reserved size k) 0 fill) → take size bytes ≡ cleared (replicate size fill)
@@ -23,12 +23,12 @@ pub loop-place-preserved : goal.loop-place-preserved
 loop-place-preserved c =
     let l = c.loop-place in
     let f : ℕ → ℕ = λ k. cond (reserved c.args.size k) 0 c.args.fill in
-    let is : c.if-is-reserved.bytes ≡ f l.place =
-    elim c.if-is-reserved.branch [
-      | then-is-reserved w ↦ w.bytes_is ∙ sym (cond-true (reserved c.args.size l.place) 0 c.args.fill (sym c.is-reserved.ensures ∙ w.if-is-reserved.true))
-      | else-is-reserved w ↦ w.bytes_is ∙ sym (cond-false (reserved c.args.size l.place) 0 c.args.fill (sym c.is-reserved.ensures ∙ w.if-is-reserved.false))
+    let is : c.if-is_reserved.bytes ≡ f l.place =
+    elim c.if-is_reserved.branch [
+      | then-is_reserved w ↦ w.bytes-is ∙ sym (cond-true (reserved c.args.size l.place) 0 c.args.fill (sym c.is_reserved.ensures ∙ w.if-is_reserved.true))
+      | else-is_reserved w ↦ w.bytes-is ∙ sym (cond-false (reserved c.args.size l.place) 0 c.args.fill (sym c.is_reserved.ensures ∙ w.if-is_reserved.false))
     ] in
-    let s = sized c.args.size (sym c.if-not-is-whole.ensures) in (
+    let s = sized c.args.size (sym c.if-not-is_whole.ensures) in (
       search rules,
       (λ k h.
           subst (λ v. get_or (set l.bytes l.place v) k 0 ≡ f k) (sym is)
@@ -42,20 +42,17 @@ front bytes size fill place whole all inv =
     ap (λ m. take m bytes) (groups_of size (sym whole))
     ∙ filled_front bytes size fill (omega (arith, s.few, inv.0)) (λ k h. inv.1 k (omega arith))
 
-pub invariant-of-result : goal.invariant-of-result
-invariant-of-result c =
+pub invariant_of-result : goal.invariant_of-result
+invariant_of-result c =
     let n = c.args.size in
-    let s = sized n (sym c.if-not-is-whole.ensures) in
-    let e = front c.loop-place.bytes n c.args.fill c.loop-place.place c.if-not-is-whole.ensures c.loop-place-test.false c.loop-place.invariant in (
-      omega (arith, s.some),
-      (
-        omega (arith, s.few),
-        (
-          c.loop-place.invariant.0,
-          (ap cleared e ∙ cleared_twice (replicate n c.args.fill) ∙ sym e, tt),
-        ),
-      ),
-    )
+    let s = sized n (sym c.if-not-is_whole.ensures) in
+    let e = front c.loop-place.bytes n c.args.fill c.loop-place.place c.if-not-is_whole.ensures c.loop-place-test.false c.loop-place.invariant in
+    record {
+      some = omega (arith, s.some);
+      few = omega (arith, s.few);
+      room = c.loop-place.invariant.0;
+      clear = ap cleared e ∙ cleared_twice (replicate n c.args.fill) ∙ sym e
+    }
 
 pub returns : goal.returns
-returns c = (sym c.if-not-is-whole.ensures, front c.loop-place.bytes c.args.size c.args.fill c.loop-place.place c.if-not-is-whole.ensures c.loop-place-test.false c.loop-place.invariant)
+returns c = (sym c.if-not-is_whole.ensures, front c.loop-place.bytes c.args.size c.args.fill c.loop-place.place c.if-not-is_whole.ensures c.loop-place-test.false c.loop-place.invariant)
