@@ -2,7 +2,6 @@
 ghost use Rattle.std.specs.Prelude.{◌≡◌};
 ghost use Rattle.carrier.specs.Carrying.{Taken};
 ghost use Rattle.carrier.specs.Harming.{plan_of, Handed};
-ghost use Rattle.std.proofs.Common.{rules, arith};
 
 use crate::carrier::Carrier;
 use crate::fault::CarrierFault;
@@ -16,7 +15,7 @@ impl<C: Carrier> Carrier for Harming<C> {
 
     ghost adds = { λ s f t. Handed C.Carrier.adds s f t };
 
-    ghost empty = { first_of (Prim.search rules, Prim.grind (arith, Self.row.coded.inj)) };
+    ghost empty = { C.empty };
 
     fn is_full(&self, groups: usize) -> bool {
         self.inner.is_full(groups)

@@ -7,7 +7,7 @@ use Rattle.accbox.proofs.hex.read_bytes.Goals as goal
 
 pub loop-digits-init : goal.loop-digits-init
 loop-digits-init c =
-    let none : vec_items c.in-ok-bytes.bytes ≡ [] = search rules in
+    let none : vec_items c.in_ok-bytes.bytes ≡ [] = search rules in
     let whole : chunks_rest c.into-iter-digits-iterator.result ≡ c.args.word.now = search rules in
     (tt, search rules, none_yet _ _ _ none (ap hex_bytes whole))
 

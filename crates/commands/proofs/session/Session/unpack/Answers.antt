@@ -9,15 +9,15 @@ use Rattle.commands.proofs.session.Session.unpack.Goals as goal
 
 pub returns : goal.returns
 returns c =
-    let made = c.in-ok-buffer.buffer in
+    let made = c.in_ok-buffer.buffer in
     let filled : vec_items made ≡ replicate c.args.size 0xEE = search rules in
-    let before = c.as-mut-slice.ensures.value ∙ filled in
+    let before = c.as_mut_slice.ensures.value ∙ filled in
     let long = ap length before ∙ length-replicate c.args.size 0xEE in
-    let frame = view c.in-ok-frame.frame in
+    let frame = view c.in_ok-frame.frame in
     let left = c.unpack-result.new.buffer in
     let buffer = with_items made left in
     let told = c.unpack-result.ensures in
-    let current = c.in-ok-frame.ensures in
+    let current = c.in_ok-frame.ensures in
     rw current (
       buffer,
       c.unpacked.ensures ∙ ap (λ r. unpack_answer r buffer) (told.answer ∙ ap (unpacking frame) long),

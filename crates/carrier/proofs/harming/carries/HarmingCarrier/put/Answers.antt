@@ -18,7 +18,7 @@ returns-in-Some g c =
     let r = c.put.result in
     let same : mid ≡ old = c.next_harm.ensures.below in
     let worse : Worse f (Some h) = c.in-Some.ensures.worse c.next_harm.ensures.allowed in
-    let free : full (waiting old) (groups_of f) ≡ false = ap (full (waiting old)) (sym (counted f c.groups.result c.groups.ensures)) ∙ sym c.is-full.ensures ∙ c.if-is-full.false in
+    let free : full (waiting old) (groups_of f) ≡ false = ap (full (waiting old)) (sym (counted f c.groups.result c.groups.ensures)) ∙ sym c.is_full.ensures ∙ c.if-is_full.false in
     let below = c.put.ensures.answer in
     record {
       answer = answers waiting full old mid new same f h worse free r below;
