@@ -10,24 +10,22 @@ mod source;
 mod words;
 
 use std::fmt::Display;
+use std::process::ExitCode;
 
-// Ends the program with status 1; its reason has been written by then.
-#[derive(Drop)]
-struct Failure;
-
-fn tell<D: Display + Drop>(rt: &HostRuntime, reason: D) -> Failure {
+// Says why the program failed, which ends with status 1.
+fn tell<D: Display + Drop>(rt: &HostRuntime, reason: D) -> ExitCode {
     // Nothing more can be said where standard error is closed.
     let _ = rt.eprintln(reason);
-    Failure
+    ExitCode::FAILURE
 }
 
-fn main(rt: HostRuntime) -> Result<(), Failure> {
+fn main(rt: HostRuntime) -> ExitCode {
     let text = match source::text(&rt) {
         Ok(text) => text,
-        Err(reason) => return Err(tell(&rt, reason)),
+        Err(reason) => return tell(&rt, reason),
     };
     match script::run(&rt, text.as_str()) {
-        Ok(()) => Ok(()),
-        Err(reason) => Err(tell(&rt, reason)),
+        Ok(()) => ExitCode::SUCCESS,
+        Err(reason) => tell(&rt, reason),
     }
 }

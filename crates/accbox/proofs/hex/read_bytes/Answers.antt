@@ -8,8 +8,8 @@ use Rattle.accbox.proofs.hex.read_bytes.Goals as goal
 pub loop-digits-init : goal.loop-digits-init
 loop-digits-init c =
     let none : vec_items c.in_ok-bytes.bytes ≡ [] = search rules in
-    let whole : chunks_rest c.into-iter-digits-iterator.result ≡ c.args.word.now = search rules in
-    (tt, search rules, none_yet _ _ _ none (ap hex_bytes whole))
+    let whole : chunks_rest c.into_iter-digits-iterator.result ≡ c.args.word.now = search rules in
+    (search rules, search rules, none_yet _ _ _ none (ap hex_bytes whole))
 
 pub loop-digits-preserved : goal.loop-digits-preserved
 loop-digits-preserved c =
@@ -20,4 +20,4 @@ loop-digits-preserved c =
     let left = chunks_rest c.next.new.self in
     let cut = c.in-Some.ensures.steps.1 in
     let first = first_pair all c.in-Some.digits.now left byte cut.0 (rw c.loop-digits.invariant.1 at cut.1) cut.2 c.in-Some-pair.ensures in
-    (tt, search rules, c.loop-digits.invariant.2 ∙ one_more read (vec_items c.push.new.self) byte (hex_bytes all) (hex_bytes left) pushed first)
+    (search rules, search rules, c.loop-digits.invariant.2 ∙ one_more read (vec_items c.push.new.self) byte (hex_bytes all) (hex_bytes left) pushed first)

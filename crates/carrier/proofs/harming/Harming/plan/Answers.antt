@@ -10,5 +10,5 @@ invariant_of-self g c =
     record {
       short = search rules;
       room = search rules;
-      harms = ap all_harm c.push_back_reserved.ensures.items ∙ all_harm_push (deque_items s.plan) c.args.harm s.harms ok
+      harms = ap all_harm c.push_back_reserved.ensures.items ∙ all_harm_push (deque_items s.plan) c.args.harm s.harms ok;
     }

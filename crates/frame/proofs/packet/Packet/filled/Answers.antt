@@ -51,7 +51,7 @@ invariant_of-result c =
       some = omega (arith, s.some);
       few = omega (arith, s.few);
       room = c.loop-place.invariant.0;
-      clear = ap cleared e ∙ cleared_twice (replicate n c.args.fill) ∙ sym e
+      clear = ap cleared e ∙ cleared_twice (replicate n c.args.fill) ∙ sym e;
     }
 
 pub returns : goal.returns

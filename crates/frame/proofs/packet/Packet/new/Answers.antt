@@ -15,7 +15,7 @@ invariant_of-result c =
       some = omega (arith, s.some);
       few = omega (arith, s.few);
       room = ap length c.copy_front.ensures ∙ simp (length-append, length-drop) (omega (arith, s.few));
-      clear = ap cleared front ∙ clear_is xs c.in_default.ensures ∙ sym front
+      clear = ap cleared front ∙ clear_is xs c.in_default.ensures ∙ sym front;
     }
 
 pub returns : goal.returns
