@@ -1,5 +1,5 @@
 -- What a unit reads of a frame: a part of it, with the places that count as zero.
-use Rattle.std.proofs.Common.{◌≡◌, ℕ, zero, ◌+◌, ◌-◌, ◌*◌, ◌<◌, ◌≤◌, ◌⊎◌, List, ◌++◌, length, get_or, take, drop, replicate, sym, ap, ◌∙◌, inl, inr, add-one, arith, rules}
+use Rattle.std.proofs.Common.{◌≡◌, ℕ, ◌+◌, ◌-◌, ◌*◌, ◌<◌, ◌≤◌, ◌⊎◌, List, ◌++◌, length, get_or, take, drop, replicate, sym, ap, ◌∙◌, inl, inr, add-one, arith, rules}
 use Rattle.std.proofs.lemmas.List.{places, same_lists, get_or-take, get_or-drop, length-take, length-drop, length-append, length-set, length-replicate}
 use Rattle.frame.specs.Units.{counted, unit_part, unit_bytes}
 use Rattle.crc.specs.Check.{run}

@@ -1,6 +1,5 @@
 -- The worked run is a run, over every two carriers that are not full when nothing waits.
 use Rattle.std.proofs.Common.{◌≡◌, ℕ, false, List, [], ◌∷◌, ◌++◌, length, replicate, None, sym, refl, ap, ◌∙◌, subst}
-use Rattle.terms.specs.declared.content.Content.TheVariants as content
 use Rattle.terms.specs.declared.reply.Reply.{Reply}
 use Rattle.frame.specs.Form.{sealed, reply_frame}
 use Rattle.frame.specs.Frame.{FrameM}

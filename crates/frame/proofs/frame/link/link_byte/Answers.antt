@@ -1,6 +1,6 @@
 use Rattle.std.proofs.Common.{◌≡◌, ℕ, ◌/◌, ◌%◌, List, get_or, ap, arith}
 use Rattle.std.proofs.lemmas.Bool.Decides.{nat_tests}
-use Rattle.frame.specs.Form.{kind_byte, link_byte}
+use Rattle.frame.specs.Form.{link_byte}
 use Rattle.frame.proofs.frame.link.link_byte.Goals as goal
 
 pub returns-in-8 : goal.returns-in-8
