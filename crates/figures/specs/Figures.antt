@@ -1,6 +1,6 @@
 -- The worked figures of the rules, in one table: what the rules give, and what it is to be.
 use Rattle.std.specs.Prelude.{◌≡◌, ℕ, false, List, [], ◌∷◌, length, take, drop, replicate, Some, None, Option, slice_set}
-use Rattle.std.specs.List.{AllByRecursion as All}
+use Rattle.std.specs.List.{AllByRecursion}
 use Rattle.terms.specs.declared.mark.Mark.TheVariants.{Data}
 use Rattle.terms.specs.declared.reply.Reply.{Reply}
 use Rattle.frame.specs.Form.{sealed, kind_byte, reply_frame}
@@ -55,4 +55,4 @@ figures =
 
 -- each is what it is to be
 abbrev pub Hold : Type 0
-Hold = All (λ (f : List ℕ × List ℕ). f.0 ≡ f.1) figures
+Hold = AllByRecursion (λ (f : List ℕ × List ℕ). f.0 ≡ f.1) figures

@@ -2,7 +2,7 @@
 use Rattle.std.proofs.Common.{◌≡◌, ℕ, ◌+◌, ◌-◌, ◌%◌, ◌<◌, ◌≤◌, max, List, [], ◌∷◌, ◌++◌, length, get_or, take, drop, sym, ap, ◌∙◌, subst, arith}
 use Rattle.std.proofs.lemmas.List.{length-drop, length_push, drop-append-le, drop-drop, take-append-le, take_more, get_or-drop}
 use Rattle.std.proofs.ByRecursion.{All-get_or, All-push}
-use Rattle.std.specs.List.{AllByRecursion as All}
+use Rattle.std.specs.List.{AllByRecursion}
 use Rattle.frame.specs.Packet.{IsPacket}
 use Rattle.link.proofs.Numbers.{one_more, oldest_is, plus, same_index, before, one_less, gap_is}
 use Rattle.link.proofs.Flight.{Packed, packed, Flight, flight_first, flight_lower, flight_higher, flight_grown, flight_push, flight_tail}
@@ -15,7 +15,7 @@ pub record Sender (next : ℕ) (held : List (List ℕ)) (sent cursor : ℕ) (too
   pub room : length took ≤ freed + 16
   pub cursor_sent : cursor ≤ sent
   pub sent_took : freed + sent ≤ length took
-  pub packets : All IsPacket took
+  pub packets : AllByRecursion IsPacket took
 
 -- the end that hands packets up
 pub record Receiver (sent expected : ℕ) (took handed : List (List ℕ)) (freed : ℕ) : Type 0 where

@@ -1,7 +1,7 @@
 -- Every run from a fresh pair is faithful.
 use Rattle.std.proofs.Common.{◌≡◌, ℕ, ◌+◌, List, [], ◌∷◌, ◌++◌, length, drop, sym, refl, ap, ◌∙◌, subst₂, append_assoc, add-zero, add_assoc, zero-add, arith}
 use Rattle.std.proofs.lemmas.List.{append-nil, take-append-drop, take_all}
-use Rattle.std.specs.List.{AllByRecursion as All}
+use Rattle.std.specs.List.{AllByRecursion}
 use Rattle.frame.specs.Frame.{FrameM}
 use Rattle.link.specs.declared.side.Side.{Side}
 use Rattle.link.specs.declared.side.Side.TheVariants.{A, B}
@@ -73,7 +73,7 @@ module _ (there back : Fullness) where
     step_named A c x b step = near_named s.a s.b s.there s.back p.took q.handed p.freed both.0 there c _ step.does
     step_named B c x b step = near_named s.b s.a s.back s.there q.took p.handed q.freed both.1 back c _ step.does
 
-  run_keeps : {s t : PairM} {es : List Event} (p q : Totals) → Both s p q → Run there back s es t → Both t (after_calls A p es) (after_calls B q es) × All (λ e. number_of e.answer ≡ 12 → ⊥) es
+  run_keeps : {s t : PairM} {es : List Event} (p q : Totals) → Both s p q → Run there back s es t → Both t (after_calls A p es) (after_calls B q es) × AllByRecursion (λ e. number_of e.answer ≡ 12 → ⊥) es
   run_keeps {t = t} p q both start = (subst₂ (Both t) (after_none A p) (after_none B q) both, tt)
   run_keeps {t = u} p q both (next {s} {t} {e = e} {es} step run) =
       let kept = step_keeps s p q both t e.side e.call e.answer e.buffer step in

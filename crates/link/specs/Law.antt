@@ -1,6 +1,6 @@
 -- The law of the link: what holds of every run of calls from a fresh pair.
 use Rattle.std.specs.Prelude.{◌≡◌, ℕ, ◌+◌, ◌≤◌, List, ◌++◌, length, ◌≢◌}
-use Rattle.std.specs.List.{AllByRecursion as All}
+use Rattle.std.specs.List.{AllByRecursion}
 use Rattle.link.specs.Outcome.{number_of}
 use Rattle.link.specs.Runs.{Event, PairM, seen_by, Fullness, Run}
 use Rattle.link.specs.Totals.{all_taken, all_handed, all_released, other}
@@ -16,7 +16,7 @@ pub record Kept (took handed : List (List ℕ)) (freed held : ℕ) : Type 0 wher
 -- each direction, named by its near end, is kept; and no reply ever named a packet that was not dispatched
 pub record Faithful (es : List Event) (t : PairM) : Type 0 where
   pub each : (near : Side) → Kept (all_taken near es) (all_handed (other near) es) (all_released near es) (length (seen_by near t).end.held)
-  pub named : All (λ e. number_of e.answer ≢ 12) es
+  pub named : AllByRecursion (λ e. number_of e.answer ≢ 12) es
 
 -- every run from s, over carriers that are full so, is faithful
 abbrev pub Law : Fullness → Fullness → PairM → Type 0
