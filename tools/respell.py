@@ -49,9 +49,9 @@ def table(texts):
             if "-" in m[1].strip("-") and "goal." not in m[2]:
                 own.add(m[1])
     turned = {name: name.replace("-", "_") for name in own}
-    for name, new in sorted(turned.items()):
-        if new in declared:
-            print(f"look: {name} and {new} fall together in spelling")
+    together = sorted(name for name, new in turned.items() if new in declared)
+    if together or len(set(turned.values())) < len(turned):
+        raise SystemExit(f"names would fall together, and nothing was written: {together or sorted(turned)}")
     return turned
 
 
