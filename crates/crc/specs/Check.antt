@@ -1,5 +1,5 @@
 -- The cyclic checks of the link: a check over a width w and a polynomial p, and the link check.
-use Rattle.std.specs.Prelude.{◌≡◌, ℕ, zero, suc, ◌-◌, ◌*◌, ◌/◌, ◌%◌, ◌^◌, ◌<◌, cond, List, [], ◌∷◌, length, ◌==◌, bit_xor, slice_index, slice_set}
+use Rattle.std.specs.Prelude.{◌≡◌, ℕ, zero, suc, ◌-◌, ◌*◌, ◌/◌, ◌%◌, ◌^◌, ◌<◌, cond, List, fold, length, ◌==◌, bit_xor, slice_index, slice_set}
 
 -- one bit: it is xored with the state's top bit, the state moves left by one within w bits, and where that xor was 1 the polynomial is xored in
 unfoldable pub bit_step : ℕ → ℕ → ℕ → ℕ → ℕ
@@ -16,8 +16,7 @@ byte_step w p s byte = bits_run w p byte 8 s
 
 -- the bytes in turn, from the state s
 abbrev pub run : ℕ → ℕ → ℕ → List ℕ → ℕ
-run w p s [] = s
-run w p s (x ∷ xs) = run w p (byte_step w p s x) xs
+run w p s xs = fold (byte_step w p) s xs
 
 -- the link check: sixteen bits, from the state 0
 unfoldable pub link_check : List ℕ → ℕ

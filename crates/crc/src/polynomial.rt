@@ -21,34 +21,30 @@ pub(crate) const LINK: Polynomial = Polynomial {
     terms: 0x8005,
 };
 
-fn bit_step(by: Polynomial, state: u16, bit: u16) -> u16
-    ensures { result ≡ bit_step by.width by.terms state bit }
-{
-    let moved = (u32::from(state) * 2 % (1u32 << by.width)) as u16;
-    if (state >> (by.width - 1)) ^ bit == 1 {
-        moved ^ by.terms
-    } else {
-        moved
+impl Polynomial {
+    fn bit_step(self, state: u16, bit: u16) -> u16
+        ensures { result ≡ bit_step self.width self.terms state bit }
+    {
+        let moved = (u32::from(state) * 2 % (1u32 << self.width)) as u16;
+        if (state >> (self.width - 1)) ^ bit == 1 {
+            moved ^ self.terms
+        } else {
+            moved
+        }
     }
-}
 
-fn byte_step(by: Polynomial, state: u16, byte: u8) -> u16
-    ensures { result ≡ byte_step by.width by.terms state byte }
-{
-    let mut s = state;
-    for k in (0..8u32).rev() {
-        s = bit_step(by, s, u16::from((byte >> k) % 2));
+    fn byte_step(self, state: u16, byte: u8) -> u16
+        ensures { result ≡ byte_step self.width self.terms state byte }
+    {
+        (0..8u32)
+            .rev()
+            .fold(state, |s, k| self.bit_step(s, u16::from((byte >> k) % 2)))
     }
-    s
-}
 
-// The state after the bytes of a part, from any state.
-pub(crate) fn run(by: Polynomial, state: u16, part: &[u8]) -> u16
-    ensures { result ≡ run_of by.width by.terms state part.now }
-{
-    let mut s = state;
-    for b in part {
-        s = byte_step(by, s, *b);
+    // The state after the bytes of a part, from any state.
+    pub(crate) fn run(self, state: u16, part: &[u8]) -> u16
+        ensures { result ≡ run_of self.width self.terms state part.now }
+    {
+        part.iter().fold(state, |s, b| self.byte_step(s, *b))
     }
-    s
 }

@@ -2,10 +2,10 @@
 ghost use Rattle.std.specs.Prelude.{◌≡◌, replicate};
 ghost use Rattle.crc.specs.Check.{run as run_of, OneByteShows};
 
-use crate::polynomial::{UNIT, run};
+use crate::polynomial::UNIT;
 
 // Eight bits of state; each part of the unit is lent to it in turn.
-#[derive(Clone, Copy)]
+#[derive(Clone, Copy, PartialEq, Eq, Debug)]
 pub struct UnitCheck {
     state: u8,
 }
@@ -28,14 +28,15 @@ impl UnitCheck {
         ensures after { self.new.state ≡ run_of 8 0xA1 self.old.state part.now }
         ensures shows { OneByteShows 8 0xA1 self.old.state part.now }
     {
-        let state = run(UNIT, u16::from(self.state), part) as u8;
-        *self = UnitCheck { state };
+        *self = UnitCheck {
+            state: UNIT.run(u16::from(self.state), part) as u8,
+        };
     }
 
     pub fn feed_zeros(&mut self, count: usize)
         ensures { self.new.state ≡ run_of 8 0xA1 self.old.state (replicate count 0) }
     {
-        for _turn in 0..count {
+        for _ in 0..count {
             self.feed(&[0]);
         }
     }

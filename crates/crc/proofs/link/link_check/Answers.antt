@@ -8,5 +8,5 @@ unfolding link_check
 returns c =
     record {
       value = c.run.ensures;
-      shows = λ i y h fits same. one_byte 15 0x8005 refl (lit< tt) 8 refl 0 c.args.bytes.now i y (lit< tt) h (search rules) fits same;
+      shows = λ i y h fits same. one_byte 15 0x8005 refl (lit< tt) 8 refl 0 _ i y (lit< tt) h (search rules) fits same;
     }

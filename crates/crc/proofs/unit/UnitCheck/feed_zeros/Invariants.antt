@@ -2,5 +2,5 @@ use Rattle.std.proofs.Common.{◌≡◌, replicate}
 use Rattle.crc.specs.Check.{run}
 use Rattle.crc.proofs.unit.UnitCheck.feed_zeros.Given as goal
 
-abbrev pub invariant-loop-turn : goal.invariant-loop-turn
-invariant-loop-turn l = l.self.state ≡ run 8 0xA1 l.initial.self.state (replicate l._turn 0)
+abbrev pub invariant-loop : goal.invariant-loop
+invariant-loop l = l.self.state ≡ run 8 0xA1 l.initial.self.state (replicate l.counter 0)
