@@ -9,7 +9,7 @@ use terms::mark::Mark;
 fn digit(letter: u8) -> Option<Mark>
     ensures { result ≡ digit_mark letter }
 {
-    Mark::from_number(letter.checked_sub(b'0')?)
+    Mark::try_from(letter.checked_sub(b'0')?).ok()
 }
 
 pub(crate) fn read_mark(word: &str) -> Option<Mark>

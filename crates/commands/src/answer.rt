@@ -63,7 +63,7 @@ fn write_characters<W: fmt::Write>(frame: &Frame, f: &mut fmt::Formatter<W>) -> 
         if number > 0 {
             f.write_str("\n")?;
         }
-        let mark = mark.number();
+        let mark = u8::from(*mark);
         let hex = Hex(bytes);
         write!(f, "{number} {mark} {hex}")?;
     }
@@ -101,7 +101,7 @@ impl fmt::Display for Answer {
             Answer::Framed { groups } => write!(f, "frame of {groups} groups"),
             Answer::Flipped { place, mask } => write!(f, "flipped place {place} by 0x{mask:02x}"),
             Answer::Marked { character, mark } => {
-                let mark = mark.number();
+                let mark = u8::from(*mark);
                 write!(f, "character {character} has mark {mark}")
             }
             Answer::Outside => f.write_str("outside the frame"),

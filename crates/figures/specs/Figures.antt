@@ -1,9 +1,10 @@
 -- The worked figures of the rules, in one table: what the rules give, and what it is to be.
 use Rattle.std.specs.Prelude.{◌≡◌, ℕ, false, List, [], ◌∷◌, length, take, drop, replicate, Some, None, Option, slice_set}
 use Rattle.std.specs.List.{AllByRecursion}
+use Rattle.terms.specs.Reply.{kind_byte}
 use Rattle.terms.specs.declared.mark.Mark.TheVariants.{Data}
 use Rattle.terms.specs.declared.reply.Reply.{Reply}
-use Rattle.frame.specs.Form.{sealed, kind_byte, reply_frame}
+use Rattle.frame.specs.Form.{sealed, reply_frame}
 use Rattle.frame.specs.Frame.{FrameM, byte_at, parted}
 use Rattle.link.specs.Totals.{released_by}
 use Rattle.link.specs.End.{EndM, fresh, ack}

@@ -5,9 +5,10 @@ use Rattle.std.proofs.lemmas.List.{length-take, length-drop, get_or-take, get_or
 use Rattle.crc.specs.Check.{link_check}
 use Rattle.std.proofs.lemmas.Bool.{cases_eq}
 use Rattle.std.proofs.lemmas.Bool.Decides.{nat_tests}
-use Rattle.frame.specs.Form.{link_allows, kind_byte, reply_check, link_byte, reply_frame}
+use Rattle.frame.specs.Form.{link_allows, reply_check, link_byte, reply_frame}
 use Rattle.frame.specs.Frame.{FrameM, Grouped, byte_at, mark_at}
 use Rattle.terms.specs.Mark.{mark_number}
+use Rattle.terms.specs.Reply.{kind_byte}
 use Rattle.frame.specs.Reading.{reply_of, word_check}
 use Rattle.frame.specs.declared.frame.Kind.TheVariants.{Link}
 use Rattle.terms.specs.declared.mark.Mark.TheVariants.{Zero, Control}

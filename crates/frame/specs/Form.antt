@@ -6,11 +6,10 @@ use Rattle.frame.specs.Units.{unit_check}
 use Rattle.frame.specs.Frame.{FrameM, byte_at, mark_at}
 use Rattle.frame.specs.declared.frame.Kind.{Kind}
 use Rattle.frame.specs.declared.frame.Kind.TheVariants.{Protocol, Link}
+use Rattle.terms.specs.Reply.{kind_byte}
 use Rattle.terms.specs.declared.mark.Mark.{Mark}
 use Rattle.terms.specs.declared.mark.Mark.TheVariants.{Data, Control}
 use Rattle.terms.specs.declared.reply.Reply.{Reply}
-use Rattle.terms.specs.declared.reply.ReplyKind.{ReplyKind}
-use Rattle.terms.specs.declared.reply.ReplyKind.TheVariants.{Ack, Nak}
 
 -- link kind exactly if character 0 has mark 2 and place 0 is 0x5C
 abbrev pub kind_of : FrameM → Kind
@@ -47,11 +46,6 @@ protocol_byte id p k =
     (cond (k == 1) id
     (cond (nat_lt (k + 14) (length p)) (slice_index p k)
     (cond (nat_lt (k + 6) (length p)) (unit_check (slice_set p 1 id) (k + 14 - length p)) 0xFD)))
-
--- ACK or NAK, at place 9
-abbrev pub kind_byte : ReplyKind → ℕ
-kind_byte Ack = 0x00
-kind_byte Nak = 0x80
 
 -- the link check of a reply, over places 8 to 13: the tag, the kind, the ID and three zeros
 unfoldable pub reply_check : Reply → ℕ

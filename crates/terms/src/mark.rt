@@ -1,5 +1,6 @@
 // The two-bit mark of a character.
 ghost use Rattle.std.specs.Prelude.{◌≡◌};
+ghost use Rattle.std.specs.Option.{ok_or};
 ghost use Rattle.terms.specs.Mark.{mark_number, mark_of};
 
 // 1 is data and 2 control; 0 and 3 are sync errors.
@@ -11,27 +12,35 @@ pub enum Mark {
     Three,
 }
 
-impl Mark {
-    pub fn number(self) -> u8
-        ensures { result ≡ mark_number self }
-    {
-        match self {
+// A number that no mark has.
+#[derive(Clone, Copy, PartialEq, Eq, Debug)]
+pub struct UnknownMark(pub u8);
+
+impl From<Mark> for u8 {
+    ghost from_gives = { λ m r. r ≡ mark_number m };
+
+    fn from(mark: Mark) -> u8 {
+        match mark {
             Mark::Zero => 0,
             Mark::Data => 1,
             Mark::Control => 2,
             Mark::Three => 3,
         }
     }
+}
 
-    pub fn from_number(number: u8) -> Option<Mark>
-        ensures { result ≡ mark_of number }
-    {
+impl TryFrom<u8> for Mark {
+    type Error = UnknownMark;
+
+    ghost try_from_gives = { λ n r. r ≡ ok_or (mark_of n) (record { 0 = n }) };
+
+    fn try_from(number: u8) -> Result<Mark, UnknownMark> {
         match number {
-            0 => Some(Mark::Zero),
-            1 => Some(Mark::Data),
-            2 => Some(Mark::Control),
-            3 => Some(Mark::Three),
-            _ => None,
+            0 => Ok(Mark::Zero),
+            1 => Ok(Mark::Data),
+            2 => Ok(Mark::Control),
+            3 => Ok(Mark::Three),
+            _ => Err(UnknownMark(number)),
         }
     }
 }

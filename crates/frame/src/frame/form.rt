@@ -56,7 +56,7 @@ impl Frame {
     {
         let marks = self.marks();
         for (character, mark) in marks.iter().enumerate() {
-            let number = mark.number();
+            let number = u8::from(*mark);
             if number != 1 && number != 2 {
                 return Some(character);
             }
@@ -69,7 +69,7 @@ impl Frame {
     {
         let marks = self.marks();
         for (character, mark) in marks.iter().enumerate() {
-            if mark.number() != form_mark(kind, marks.len(), character).number() {
+            if u8::from(*mark) != u8::from(form_mark(kind, marks.len(), character)) {
                 return Some(character);
             }
         }

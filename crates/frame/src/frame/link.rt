@@ -1,6 +1,6 @@
 // The link frame: a reply.
 ghost use Rattle.std.specs.Prelude.{◌≡◌, Ok};
-ghost use Rattle.frame.specs.Form.{link_allows, kind_byte, reply_check, link_byte, reply_frame};
+ghost use Rattle.frame.specs.Form.{link_allows, reply_check, link_byte, reply_frame};
 ghost use Rattle.frame.specs.Frame.{view};
 ghost use Rattle.frame.specs.Reading.{reading, reading_as};
 ghost use Rattle.frame.specs.Word.{Words};
@@ -36,19 +36,10 @@ pub(super) fn allows_byte(place: usize, byte: u8) -> bool
     }
 }
 
-fn kind_byte(kind: ReplyKind) -> u8
-    ensures { result ≡ kind_byte kind }
-{
-    match kind {
-        ReplyKind::Ack => 0x00,
-        ReplyKind::Nak => 0x80,
-    }
-}
-
 fn reply_check(reply: Reply) -> u16
     ensures { result ≡ reply_check reply }
 {
-    link_check(&[TAG, kind_byte(reply.kind), reply.id, 0, 0, 0])
+    link_check(&[TAG, u8::from(reply.kind), reply.id, 0, 0, 0])
 }
 
 // The byte at a place of the link frame of a reply with this check.
@@ -60,7 +51,7 @@ fn link_byte(reply: Reply, check: u16, place: usize) -> u8
     match place {
         0..=7 => LEAD,
         8 => TAG,
-        9 => kind_byte(reply.kind),
+        9 => u8::from(reply.kind),
         10 => reply.id,
         11..=13 => 0,
         14 => low,

@@ -52,7 +52,7 @@ impl Frame {
     pub fn kind(&self) -> Kind
         ensures { result ≡ kind_of (view self.now) }
     {
-        if self.marks[0].number() == 2 && self.bytes[0] == 0x5C {
+        if u8::from(self.marks[0]) == 2 && self.bytes[0] == 0x5C {
             Kind::Link
         } else {
             Kind::Protocol

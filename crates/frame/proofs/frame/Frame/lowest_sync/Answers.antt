@@ -11,14 +11,14 @@ pub returns-then-number-ne2 : goal.returns-then-number-ne2
 returns-then-number-ne2 c =
     let f = view c.args.self.now in
     let i = c.loop-character.character in
-    let is : c.number-number.result ≡ mark_at f i = c.number-number.ensures ∙ ap (λ ms. mark_number (get_or ms i Zero)) c.marks-marks.ensures in
+    let is : c.from-number.result ≡ mark_at f i = c.from-number.ensures ∙ ap (λ ms. mark_number (get_or ms i Zero)) c.marks-marks.ensures in
     found (sync_right f) (length f.marks) i (omega (arith, ap length c.marks-marks.ensures)) c.loop-character.invariant (grind (arith, nat_tests))
 
 pub loop-character-preserved : goal.loop-character-preserved
 loop-character-preserved c =
     let f = view c.args.self.now in
     let i = c.loop-character.character in
-    let is : c.number-number.result ≡ mark_at f i = c.number-number.ensures ∙ ap (λ ms. mark_number (get_or ms i Zero)) c.marks-marks.ensures in
+    let is : c.from-number.result ≡ mark_at f i = c.from-number.ensures ∙ ap (λ ms. mark_number (get_or ms i Zero)) c.marks-marks.ensures in
     let e = c.else-number-ne1.either in
     below_more _ i c.loop-character.invariant (grind (arith, nat_tests))
 

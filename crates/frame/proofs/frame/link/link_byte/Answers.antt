@@ -9,7 +9,7 @@ returns-in-8 c = grind (arith, nat_tests)
 
 pub returns-in-9 : goal.returns-in-9
 unfolding link_byte
-returns-in-9 c = let e = c.kind_byte.ensures in grind (arith, nat_tests)
+returns-in-9 c = let e = c.from.ensures in grind (arith, nat_tests)
 
 pub returns-in-10 : goal.returns-in-10
 unfolding link_byte
