@@ -1,5 +1,9 @@
 // What a line of a script asks for.
+ghost use Rattle.std.specs.Prelude.{Some};
+ghost use Rattle.commands.specs.Text.{carrier_text};
+
 use carrier::harm::Harm;
+use std::fmt;
 use terms::mark::Mark;
 use terms::reply::Reply;
 
@@ -32,4 +36,14 @@ pub enum Load {
 #[derive(Clone, Copy)]
 pub enum CarrierKind {
     Straight,
+}
+
+impl fmt::Display for CarrierKind {
+    ghost output = { λ k. Some (carrier_text k) };
+
+    fn fmt<W: fmt::Write>(&self, f: &mut fmt::Formatter<W>) -> fmt::Result {
+        f.write_str(match self {
+            CarrierKind::Straight => "straight",
+        })
+    }
 }

@@ -1,3 +1,4 @@
 pub mod Fault
 pub mod Mark
 pub mod Reply
+pub mod Text

@@ -1,8 +1,11 @@
 // What is refused, and what a panel shows of it.
-ghost use Rattle.std.specs.Prelude.{◌≡◌};
+ghost use Rattle.std.specs.Prelude.{◌≡◌, Some};
 ghost use Rattle.terms.specs.Fault.{packet_refusal, frame_refusal, host_refusal, unpack_refusal};
 ghost use Rattle.terms.specs.declared.fault.Refusal.{Refusal as Panel};
 ghost use Rattle.terms.specs.declared.fault.UnpackFault.TheVariants.{Frame as ByFrame, Host as ByHost};
+ghost use Rattle.terms.specs.Text.{layer_text, refusal_text};
+
+use std::fmt;
 
 // The part of the box that refuses.
 #[derive(Clone, Copy, PartialEq, Eq, Debug)]
@@ -22,6 +25,30 @@ pub struct Refusal {
     pub number: u8,
     pub layer: Layer,
     pub place: usize,
+}
+
+impl fmt::Display for Layer {
+    ghost output = { λ l. Some (layer_text l) };
+
+    fn fmt<W: fmt::Write>(&self, f: &mut fmt::Formatter<W>) -> fmt::Result {
+        f.write_str(match self {
+            Layer::End => "end",
+            Layer::Carrier => "carrier",
+            Layer::Frame => "frame",
+            Layer::Check => "check",
+            Layer::Host => "host",
+            Layer::Lane => "lane",
+            Layer::Setting => "setting",
+        })
+    }
+}
+
+impl fmt::Display for Refusal {
+    ghost output = { λ r. Some (refusal_text r) };
+
+    fn fmt<W: fmt::Write>(&self, f: &mut fmt::Formatter<W>) -> fmt::Result {
+        write!(f, "{} {} {}", self.number, self.layer, self.place)
+    }
 }
 
 // A fault that a panel can show.
@@ -90,18 +117,14 @@ impl Shown for PacketFault {
     ghost shown = { packet_refusal };
 
     fn refusal(&self) -> Refusal {
-        let layer = Layer::End;
-        match self {
-            PacketFault::Length => Refusal {
-                number: 1,
-                layer,
-                place: 0,
-            },
-            PacketFault::Reserved(place) => Refusal {
-                number: 2,
-                layer,
-                place: *place,
-            },
+        let (number, place) = match *self {
+            PacketFault::Length => (1, 0),
+            PacketFault::Reserved(place) => (2, place),
+        };
+        Refusal {
+            number,
+            layer: Layer::End,
+            place,
         }
     }
 }
@@ -110,22 +133,15 @@ impl Shown for FrameFault {
     ghost shown = { frame_refusal };
 
     fn refusal(&self) -> Refusal {
-        match self {
-            FrameFault::Sync(at) => Refusal {
-                number: 7,
-                layer: Layer::Frame,
-                place: *at,
-            },
-            FrameFault::Form(at) => Refusal {
-                number: 8,
-                layer: Layer::Frame,
-                place: *at,
-            },
-            FrameFault::Check(at) => Refusal {
-                number: 9,
-                layer: Layer::Check,
-                place: *at,
-            },
+        let (number, layer, place) = match *self {
+            FrameFault::Sync(character) => (7, Layer::Frame, character),
+            FrameFault::Form(place) => (8, Layer::Frame, place),
+            FrameFault::Check(place) => (9, Layer::Check, place),
+        };
+        Refusal {
+            number,
+            layer,
+            place,
         }
     }
 }

@@ -1,7 +1,9 @@
 // The two-bit mark of a character.
-ghost use Rattle.std.specs.Prelude.{◌≡◌};
+ghost use Rattle.std.specs.Prelude.{◌≡◌, Some, decimal};
 ghost use Rattle.std.specs.Option.{ok_or};
 ghost use Rattle.terms.specs.Mark.{mark_number, mark_of};
+
+use std::fmt;
 
 // 1 is data and 2 control; 0 and 3 are sync errors.
 #[derive(Clone, Copy, PartialEq, Eq, Debug)]
@@ -42,5 +44,13 @@ impl TryFrom<u8> for Mark {
             3 => Ok(Mark::Three),
             _ => Err(UnknownMark(number)),
         }
+    }
+}
+
+impl fmt::Display for Mark {
+    ghost output = { λ m. Some (decimal (mark_number m)) };
+
+    fn fmt<W: fmt::Write>(&self, f: &mut fmt::Formatter<W>) -> fmt::Result {
+        write!(f, "{}", u8::from(*self))
     }
 }

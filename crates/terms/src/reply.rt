@@ -1,7 +1,10 @@
 // What a link frame says to the other end.
-ghost use Rattle.std.specs.Prelude.{◌≡◌};
+ghost use Rattle.std.specs.Prelude.{◌≡◌, Some};
 ghost use Rattle.std.specs.Option.{ok_or};
 ghost use Rattle.terms.specs.Reply.{kind_byte, kind_of_byte};
+ghost use Rattle.terms.specs.Text.{kind_text, reply_text};
+
+use std::fmt;
 
 #[derive(Clone, Copy, PartialEq, Eq, Debug)]
 pub enum ReplyKind {
@@ -41,5 +44,24 @@ impl TryFrom<u8> for ReplyKind {
             0x80 => Ok(ReplyKind::Nak),
             _ => Err(UnknownKind(byte)),
         }
+    }
+}
+
+impl fmt::Display for ReplyKind {
+    ghost output = { λ k. Some (kind_text k) };
+
+    fn fmt<W: fmt::Write>(&self, f: &mut fmt::Formatter<W>) -> fmt::Result {
+        f.write_str(match self {
+            ReplyKind::Ack => "ACK",
+            ReplyKind::Nak => "NAK",
+        })
+    }
+}
+
+impl fmt::Display for Reply {
+    ghost output = { λ r. Some (reply_text r) };
+
+    fn fmt<W: fmt::Write>(&self, f: &mut fmt::Formatter<W>) -> fmt::Result {
+        write!(f, "{}, ID {}", self.kind, self.id)
     }
 }
