@@ -1,31 +1,9 @@
 -- What a harming carrier makes of the one below it.
-use Rattle.std.proofs.Common.{◌≡◌, ℕ, ◌*◌, ◌/◌, ◌≤◌, Bool, true, false, List, length, IfOk, Some, None, Ok, deque_items, deque_len, deque_capacity, Option, Result, sym, ap, ◌∙◌, subst, ap₂, inl, inr, arith, MatchResult}
-use mathlib.Core.HLevel.{is_prop→PathP}
-use native.Mathlib.Bridge.{le_prop}
-use base.Stored.{Coded-set, coded_bool}
-use Rattle.frame.specs.Frame.{FrameM}
-use Rattle.frame.specs.declared.frame.Frame.{Frame}
-use Rattle.carrier.specs.Carrying.{groups_of, putting, Added, whole, broken, lost, Taken}
-use Rattle.carrier.specs.Harm.{harmed, all_harm, Worse}
-use Rattle.carrier.specs.Harming.{HandedTo}
+use Rattle.std.proofs.Common.{◌≡◌, ℕ, ◌/◌, Bool, false, List, Some, Ok, Result, sym, ap, ◌∙◌, subst, ap₂, inl, inr, arith, MatchResult}
+use Rattle.frame.specs.Frame.{FrameM, Grouped}
+use Rattle.carrier.specs.Carrying.{groups_of, putting, Added, whole, broken, lost}
+use Rattle.carrier.specs.Harm.{Worse}
 use Rattle.carrier.specs.declared.fault.CarrierFault.{CarrierFault}
-use Rattle.carrier.specs.declared.harm.Harm.{Harm}
-use Rattle.carrier.specs.declared.harming.Harming.{Harming}
-
--- a harming carrier is its plan and the carrier below
-same_parts : {C : Type 0} (s t : Harming C) → s.inner ≡ t.inner → s.plan ≡ t.plan → s ≡ t
-same_parts s t e p = λ i. record {
-  inner = e i;
-  plan = p i;
-  short = is_prop→PathP (λ j. deque_len (p j) ≤ 64) (λ j. le_prop) s.short t.short i;
-  room = is_prop→PathP (λ j. 64 ≤ deque_capacity (p j)) (λ j. le_prop) s.room t.room i;
-  harms = is_prop→PathP (λ j. all_harm (deque_items (p j)) ≡ true) (λ j. Coded-set coded_bool _ _) s.harms t.harms i;
-}
-
--- what is taken below is taken here
-pub taken_below : {C : Type 0} (waiting : C → List FrameM) (s t : Harming C) (o : Option Frame) → t.plan ≡ s.plan → Taken waiting s.inner o t.inner → Taken (λ h. waiting h.inner) s o t
-taken_below waiting s t None p (empty, same) = (empty, same_parts t s same p)
-taken_below waiting s t (Some f) p is = is
 
 -- a frame that a harm hands on has as many groups as the one that was put
 pub groups_stay : (f g : FrameM) → Worse f (Some g) → groups_of g ≡ groups_of f
@@ -39,9 +17,9 @@ added_worse before after f g (inr b) (whole e) = broken g b.groups b.like b.brok
 added_worse before after f g (inr b) (broken h groups shape k e) = broken h groups shape k e
 added_worse before after f g (inr b) (lost e) = lost e
 
--- the number of groups that a frame of the code answers
-pub counted : (f : FrameM) (n : ℕ) → 128 * n ≡ length f.bytes → n ≡ groups_of f
-counted f n e = let h : length f.bytes ≡ 128 * n = sym e in omega arith
+-- the number of groups of a frame
+pub counted : (f : FrameM) (n : ℕ) → Grouped f n → n ≡ groups_of f
+counted f n g = omega (arith, g.bytes_long)
 
 -- what holds of a put that was accepted
 accepted : {A E : Type 0} {r : Result A E} {a : A} (P : A → Type 0) (Q : E → Type 0) → r ≡ Ok a → MatchResult r P Q → P a
@@ -53,7 +31,7 @@ holds P Q e p = subst (λ r. MatchResult r P Q) (sym e) p
 -- the carrier below, as it was and after it was handed the frame h that a harm made of the frame f
 module _ {C : Type 0} (waiting : C → List FrameM) (full : List FrameM → ℕ → Bool) (old mid new : C) (same : mid ≡ old) (f h : FrameM) (worse : Worse f (Some h))
     (free : full (waiting old) (groups_of f) ≡ false) (r : Result (Unit {0}) CarrierFault) (below : r ≡ putting (full (waiting mid) (groups_of h))) where
-  pub answers : r ≡ putting (full (waiting old) (groups_of f))
+  answers : r ≡ putting (full (waiting old) (groups_of f))
   answers = below ∙ ap₂ (λ c n. putting (full (waiting c) n)) same (groups_stay f h worse)
 
   is_ok : r ≡ Ok tt
@@ -63,11 +41,3 @@ module _ {C : Type 0} (waiting : C → List FrameM) (full : List FrameM → ℕ 
   added_here Q is =
       let a : Added (waiting mid) h (waiting new) = accepted (λ _. Added (waiting mid) h (waiting new)) (λ _. new ≡ mid) is_ok is in
       holds (λ _. Added (waiting old) f (waiting new)) Q is_ok (added_worse (waiting old) (waiting new) f h worse (subst (λ c. Added (waiting c) h (waiting new)) same a))
-
-  pub handed_here : (adds : C → FrameM → C → Type 0) (used harm : Harm) → used ≡ harm → Some h ≡ harmed used f → IfOk r (λ _. adds mid h new) → HandedTo adds old (harmed harm f) new
-  handed_here adds used harm e made is =
-      let a : adds mid h new = accepted (λ _. adds mid h new) (λ _. Unit {0}) is_ok is in
-      subst (λ o. HandedTo adds old o new) (made ∙ ap (λ x. harmed x f) e) (subst (λ c. adds c h new) same a)
-
-  pub exactly_here : (P : Type 0) (Q : CarrierFault → Type 0) → P → MatchResult r (λ _. P) Q
-  exactly_here P Q p = holds (λ _. P) Q is_ok p

@@ -1,8 +1,7 @@
 -- What a carrier may make of a frame that is put.
 use Rattle.std.specs.Prelude.{◌≡◌, ℕ, ◌/◌, Bool, cond, List, [], ◌∷◌, ◌++◌, length, Some, None, Ok, Err, Option, Result}
-use Rattle.frame.specs.Frame.{FrameM, Grouped, view}
+use Rattle.frame.specs.Frame.{FrameM, Grouped}
 use Rattle.frame.specs.Reading.{Broken}
-use Rattle.frame.specs.declared.frame.Frame.{Frame}
 use Rattle.carrier.specs.declared.fault.CarrierFault.{CarrierFault}
 use Rattle.carrier.specs.declared.fault.CarrierFault.TheVariants.{Full}
 
@@ -21,6 +20,6 @@ pub data Added (before : List FrameM) (f : FrameM) (after : List FrameM) : Type 
   lost : after ≡ before → Added before f after
 
 -- what a take answers: the oldest frame, which is removed; or none exactly where none waits, and then nothing changes
-abbrev pub Taken : {S : Type 0} → (S → List FrameM) → S → Option Frame → S → Type 0
+abbrev pub Taken : {S : Type 0} → (S → List FrameM) → S → Option FrameM → S → Type 0
 Taken waiting old None new = (waiting old ≡ []) × (new ≡ old)
-Taken waiting old (Some f) new = waiting old ≡ view f ∷ waiting new
+Taken waiting old (Some f) new = waiting old ≡ f ∷ waiting new

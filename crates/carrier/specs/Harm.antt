@@ -1,5 +1,6 @@
 -- What each harm does to a frame.
-use Rattle.std.specs.Prelude.{◌≡◌, ℕ, Bool, true, cond, ◌&&◌, ◌⊎◌, List, [], ◌∷◌, length, Some, None, Ok, Err, Option, Result, nat_lt}
+use Rattle.std.specs.Prelude.{◌≡◌, ℕ, Bool, true, cond, ◌⊎◌, List, length, Some, None, Ok, Err, Option, Result, nat_lt}
+use Rattle.std.specs.List.{list_all}
 use Rattle.frame.specs.Frame.{FrameM, Grouped, flipped}
 use Rattle.frame.specs.Reading.{reading, Broken}
 use Rattle.terms.specs.declared.content.Content.{Content}
@@ -38,5 +39,4 @@ Worse f (Some g) = (g ≡ f) ⊎ BrokenLike f g
 
 -- every harm of a plan is one that a plan takes
 abbrev pub all_harm : List Harm → Bool
-all_harm [] = true
-all_harm (harm ∷ plan) = harms harm && all_harm plan
+all_harm plan = list_all harms plan

@@ -1,6 +1,6 @@
 // What every carrier does with the frames that are put into it.
 ghost use Rattle.std.specs.Prelude.{◌≡◌, ℕ, Bool, false, List, [], MatchResult, OnOk};
-ghost use Rattle.frame.specs.Frame.{FrameM, view};
+ghost use Rattle.frame.specs.Frame.{FrameM};
 ghost use Rattle.carrier.specs.Carrying.{groups_of, putting, Added, Taken};
 
 use crate::fault::CarrierFault;
@@ -21,9 +21,9 @@ pub trait Carrier {
 
     // Refuses exactly when full, and is then as it was. Otherwise that frame is added, or a broken one, or nothing.
     fn put(&mut self, frame: &Frame) -> Result<(), CarrierFault>
-        ensures answer { result ≡ putting (full (waiting self.old) (groups_of (view frame.now))) }
-        ensures added { MatchResult result (λ _. Added (waiting self.old) (view frame.now) (waiting self.new)) (λ _. self.new ≡ self.old) }
-        ensures exactly { OnOk result (adds self.old (view frame.now) self.new) };
+        ensures answer { result ≡ putting (full (waiting self.old) (groups_of frame.now)) }
+        ensures added { MatchResult result (λ _. Added (waiting self.old) frame.now (waiting self.new)) (λ _. self.new ≡ self.old) }
+        ensures exactly { OnOk result (adds self.old frame.now self.new) };
 
     // The oldest frame, or none exactly when none waits.
     fn take(&mut self) -> Option<Frame>

@@ -1,7 +1,5 @@
 // What a plan may do to a frame.
 ghost use Rattle.std.specs.Prelude.{◌≡◌, ◌<◌, true};
-ghost use Rattle.std.specs.Option.{option_map};
-ghost use Rattle.frame.specs.Frame.{view};
 ghost use Rattle.carrier.specs.Harm.{harmed, harms, Worse};
 
 use frame::frame::Frame;
@@ -27,8 +25,8 @@ impl Harm {
 
     // The frame as it goes on, or none if it is lost.
     pub fn apply(self, frame: &Frame) -> Option<Frame>
-        ensures answer { option_map view result ≡ harmed self (view frame.now) }
-        ensures worse { harms self ≡ true → Worse (view frame.now) (option_map view result) }
+        ensures answer { result ≡ harmed self frame.now }
+        ensures worse { harms self ≡ true → Worse frame.now result }
     {
         match self {
             Harm::Pass => Some(*frame),
@@ -40,18 +38,16 @@ impl Harm {
 
 // A place outside the frame passes it as it is; a frame that is broken already is lost.
 fn flip(frame: &Frame, place: usize, mask: u8) -> Option<Frame>
-    ensures answer { option_map view result ≡ harmed (Harm.Flip place mask) (view frame.now) }
-    ensures worse { 0 < mask → Worse (view frame.now) (option_map view result) }
+    ensures answer { result ≡ harmed (Harm.Flip place mask) frame.now }
+    ensures worse { 0 < mask → Worse frame.now result }
 {
     if frame.bytes().len() <= place {
         return Some(*frame);
     }
-    match frame.read() {
-        Ok(_) => {
-            let mut flipped = *frame;
-            flipped.flip(place, mask);
-            Some(flipped)
-        }
-        Err(_) => None,
+    if frame.read().is_err() {
+        return None;
     }
+    let mut flipped = *frame;
+    flipped.flip(place, mask);
+    Some(flipped)
 }

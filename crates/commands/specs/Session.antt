@@ -4,7 +4,7 @@ use Rattle.std.specs.Option.{option_map}
 use Rattle.std.specs.declared.alloc.Global.{Global}
 use Rattle.terms.specs.Fault.{packet_refusal, frame_refusal, unpack_refusal}
 use Rattle.frame.specs.Form.{sealed, reply_frame}
-use Rattle.frame.specs.Frame.{FrameM, view, parted, parts_fault, flipped, marked}
+use Rattle.frame.specs.Frame.{FrameM, parted, parts_fault, flipped, marked}
 use Rattle.frame.specs.Packet.{one_of_five, packet_fault}
 use Rattle.frame.specs.Reserved.{cleared}
 use Rattle.frame.specs.Reading.{reading}
@@ -17,7 +17,6 @@ use Rattle.terms.specs.declared.fault.PacketFault.TheVariants.{Length}
 use Rattle.terms.specs.declared.fault.ShapeFault.{ShapeFault}
 use Rattle.terms.specs.declared.fault.ShapeFault.TheVariants as shape
 use Rattle.terms.specs.declared.fault.UnpackFault.{UnpackFault}
-use Rattle.frame.specs.declared.frame.Frame.{Frame}
 use Rattle.terms.specs.declared.mark.Mark.{Mark}
 use Rattle.commands.specs.Carrying.{CarrierM, carrying, unused, on_carrier, plan_answer, plan_after, put_says, put_leaves, take_answer, take_after, take_frame}
 use Rattle.commands.specs.declared.answer.Answer.{Answer}
@@ -30,10 +29,6 @@ use Rattle.commands.specs.declared.command.Load.TheVariants.{Filled, Bytes}
 use Rattle.commands.specs.declared.session.Session.{Session}
 use Rattle.commands.specs.declared.trouble.Trouble.{Trouble}
 use Rattle.commands.specs.declared.trouble.Trouble.TheVariants as trouble
-
--- the frame that a session works on
-abbrev pub held : Session → Option FrameM
-held s = option_map view s.frame
 
 -- what its carrier holds
 abbrev pub carried : Session → Option CarrierM
@@ -101,7 +96,7 @@ UnpackSays (Some f) size (Ok a) =
 UnpackSays (Some f) size (Err t) = t ≡ trouble.Memory
 
 -- the frame itself, whose characters are written
-abbrev pub show_answer : Option Frame → Result Answer Trouble
+abbrev pub show_answer : Option FrameM → Result Answer Trouble
 show_answer None = Err trouble.NoFrame
 show_answer (Some f) = Ok (Characters f)
 
@@ -114,24 +109,24 @@ CarrierSays kind old (Err t) new = (t ≡ trouble.Memory) × (new ≡ old)
 abbrev pub Ran : Command → Session → Result Answer Trouble → Session → Type 0
 Ran (command.Seal id load) old r new =
     (r ≡ Ok (seal_answer (load_fault load) id (length (load_bytes load))))
-    × (held new ≡ unless (load_fault load) (sealed id (load_bytes load)) (held old))
+    × (new.frame ≡ unless (load_fault load) (sealed id (load_bytes load)) old.frame)
     × (new.carrier ≡ old.carrier)
-Ran (command.Reply reply) old r new = (r ≡ Ok (Made reply)) × (held new ≡ Some (reply_frame reply)) × (new.carrier ≡ old.carrier)
+Ran (command.Reply reply) old r new = (r ≡ Ok (Made reply)) × (new.frame ≡ Some (reply_frame reply)) × (new.carrier ≡ old.carrier)
 Ran (command.Raw bytes marks) old r new =
     let fault = parts_fault (length (vec_items bytes)) (length (vec_items marks)) in
     (r ≡ raw_answer fault (length (vec_items bytes)) (length (vec_items marks)))
-    × (held new ≡ unless fault (parted (vec_items bytes) (vec_items marks)) (held old))
+    × (new.frame ≡ unless fault (parted (vec_items bytes) (vec_items marks)) old.frame)
     × (new.carrier ≡ old.carrier)
 Ran (command.Flip place mask) old r new =
-    (r ≡ on_frame (held old) (flip_answer place mask))
-    × (held new ≡ option_map (λ f. flipped f place mask) (held old))
+    (r ≡ on_frame old.frame (flip_answer place mask))
+    × (new.frame ≡ option_map (λ f. flipped f place mask) old.frame)
     × (new.carrier ≡ old.carrier)
 Ran (command.Mark c m) old r new =
-    (r ≡ on_frame (held old) (mark_answer c m))
-    × (held new ≡ option_map (λ f. marked f c m) (held old))
+    (r ≡ on_frame old.frame (mark_answer c m))
+    × (new.frame ≡ option_map (λ f. marked f c m) old.frame)
     × (new.carrier ≡ old.carrier)
-Ran command.Read old r new = (r ≡ on_frame (held old) (λ f. read_answer (reading f))) × (new ≡ old)
-Ran (command.Unpack size) old r new = UnpackSays (held old) size r × (new ≡ old)
+Ran command.Read old r new = (r ≡ on_frame old.frame (λ f. read_answer (reading f))) × (new ≡ old)
+Ran (command.Unpack size) old r new = UnpackSays old.frame size r × (new ≡ old)
 Ran command.Show old r new = (r ≡ show_answer old.frame) × (new ≡ old)
 Ran (command.Carrier kind) old r new = CarrierSays kind old r new
 Ran (command.Plan harm) old r new =
@@ -139,10 +134,10 @@ Ran (command.Plan harm) old r new =
     × (carried new ≡ option_map (plan_after harm) (carried old))
     × (new.frame ≡ old.frame)
 Ran command.Put old r new =
-    (r ≡ put_says (held old) (carried old))
-    × (carried new ≡ put_leaves (held old) (carried old))
+    (r ≡ put_says old.frame (carried old))
+    × (carried new ≡ put_leaves old.frame (carried old))
     × (new.frame ≡ old.frame)
 Ran command.Take old r new =
     (r ≡ on_carrier (carried old) take_answer)
     × (carried new ≡ option_map take_after (carried old))
-    × (held new ≡ take_frame (carried old) (held old))
+    × (new.frame ≡ take_frame (carried old) old.frame)

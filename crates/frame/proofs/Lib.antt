@@ -4,10 +4,12 @@ pub mod Counts
 pub mod Flips
 pub mod Links
 pub mod Lowest
+pub mod Made
 pub mod Placed
 pub mod Protocols
 pub mod Readings
 pub mod Seals
+pub mod Searches
 pub mod Unpacked
 pub mod Views
 pub mod Window

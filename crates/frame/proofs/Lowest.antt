@@ -1,6 +1,8 @@
 -- When a number is the lowest wrong one, and when there is none.
-use Rattle.std.proofs.Common.{◌≡◌, ℕ, zero, suc, ◌<◌, ◌≤◌, Bool, true, false, cond, Some, None, Option, sym, refl, ap, ◌∙◌, inl, inr, not-suc-le-zero, arith}
-use Rattle.std.proofs.lemmas.Bool.{cases_lt}
+use Rattle.std.proofs.Common.{◌≡◌, ℕ, zero, suc, ◌+◌, ◌<◌, Bool, true, false, not, cond, List, [], ◌∷◌, length, get_or, Some, None, Option, sym, refl, ap, ◌∙◌, inl, inr, not-suc-le-zero, arith, below_more}
+use Rattle.std.specs.List.{position_from, enumerate_from}
+use Rattle.std.proofs.lemmas.List.FromFn.{length-enumerate_from, get_or-enumerate_from}
+use Rattle.std.proofs.lemmas.Bool.{cases_lt, cases_Bool, cond-true, cond-false}
 use Rattle.frame.specs.Lowest.{or_else, lowest_wrong}
 
 module _ (right : ℕ → Bool) where
@@ -36,12 +38,34 @@ module _ (right : ℕ → Bool) where
         | inr le ↦ let q : k ≡ n = omega arith in ap right q ∙ p.1
       ]
 
-  -- how a loop over the numbers ends: at the first wrong one, or past the last
-  pub found : (n i : ℕ) → i < n → ((k : ℕ) → k < i → right k ≡ true) → right i ≡ false → Some i ≡ lowest_wrong right n
-  found n i h below at = sym (is_lowest n i h below at)
+  -- a search along a list ends at the lowest wrong number, if it passes over the right ones
+  along : {X : Type 0} (test : X → Bool) (blank : X) (xs : List X) (i n : ℕ) → n ≡ i + length xs
+      → ((k : ℕ) → k < length xs → test (get_or xs k blank) ≡ not (right (i + k))) → ((k : ℕ) → k < i → right k ≡ true)
+      → position_from test i xs ≡ lowest_wrong right n
+  along test blank [] i n e each below = sym (none_wrong n (λ k h. below k (omega arith)))
+  along test blank (x ∷ xs) i n e each below =
+      let here : test x ≡ not (right i) = each 0 (omega arith) ∙ ap (λ m. not (right m)) (let z : i + 0 ≡ i = omega arith in z) in
+      elim (cases_Bool (right i)) [
+        | inl r ↦
+            cond-false (test x) (Some i) _ (here ∙ ap not r)
+            ∙ along test blank xs (i + 1) n (omega arith)
+            (λ k h. each (suc k) (omega arith) ∙ ap (λ m. not (right m)) (let z : i + suc k ≡ i + 1 + k = omega arith in z))
+            (below_more _ i below r)
+        | inr w ↦ cond-true (test x) (Some i) _ (here ∙ ap not w) ∙ sym (is_lowest n i (omega arith) below w)
+      ]
 
-  pub missed : (n i : ℕ) → n ≤ i → ((k : ℕ) → k < i → right k ≡ true) → None ≡ lowest_wrong right n
-  missed n i h below = sym (none_wrong n (λ k l. below k (omega arith)))
+  pub searched : {X : Type 0} (test : X → Bool) (blank : X) (xs : List X) → ((k : ℕ) → k < length xs → test (get_or xs k blank) ≡ not (right k))
+      → position_from test 0 xs ≡ lowest_wrong right (length xs)
+  searched test blank xs each = along test blank xs 0 (length xs) (omega arith) (λ k h. each k h ∙ ap (λ m. not (right m)) (let z : k ≡ 0 + k = omega arith in z)) (λ k h. absurd (omega arith))
+
+  -- the same along numbered items
+  pub searched_numbered : {X : Type 0} (test : ℕ × X → Bool) (blank : X) (xs : List X) → ((k : ℕ) → k < length xs → test (k, get_or xs k blank) ≡ not (right k))
+      → position_from test 0 (enumerate_from 0 xs) ≡ lowest_wrong right (length xs)
+  searched_numbered test blank xs each =
+      let l = length-enumerate_from 0 xs in
+      searched test (0, blank) (enumerate_from 0 xs)
+      (λ k h. ap test (get_or-enumerate_from 0 xs k (0, blank) (omega arith) ∙ ap (λ m. (m, get_or xs k blank)) (let z : 0 + k ≡ k = omega arith in z)) ∙ each k (omega arith))
+      ∙ ap (lowest_wrong right) l
 
   one_below : {n k : ℕ} (o : Option ℕ) (b : Bool) → ((i : ℕ) → o ≡ Some i → i < suc n) → Some k ≡ or_else o (cond b None (Some n)) → k < suc n
   one_below {n} {k} (Some i) b below e = let z : k ≡ i = cc in omega (arith, below i refl)

@@ -1,6 +1,5 @@
 -- Bytes and frames that are given place by place.
-use Rattle.std.proofs.Common.{◌≡◌, ℕ, ◌/◌, ◌<◌, false, cond, List, map, length, get_or, sym, ap, ◌∙◌, ap₂, zero-add, arith}
-use Rattle.std.specs.List.{range_with_len}
+use Rattle.std.proofs.Common.{◌≡◌, ℕ, ◌/◌, ◌<◌, false, cond, List, length, get_or, sym, ap, ◌∙◌, ap₂, zero-add, arith}
 use Rattle.std.proofs.lemmas.List.FromFn.{length-map-range_with_len, get_or-map-range_with_len, fill_by_all}
 use Rattle.std.proofs.lemmas.Bool.{cond-true, cond-false, cond_both}
 use Rattle.frame.specs.Form.{form_mark, framed}
@@ -8,12 +7,6 @@ use Rattle.frame.specs.Frame.{FrameM, byte_at, parted}
 use Rattle.frame.specs.Reserved.{reserved, cleared}
 use Rattle.frame.specs.declared.frame.Kind.{Kind}
 use Rattle.terms.specs.declared.mark.Mark.TheVariants.{Zero}
-
--- equal at every place
-pub same_places : (f h : ℕ → ℕ) (n : ℕ) → ((k : ℕ) → k < n → f k ≡ h k) → map f (range_with_len 0 n) ≡ map h (range_with_len 0 n)
-same_places f h n e =
-    fill_by_all h (map f (range_with_len 0 n)) n 0 (length-map-range_with_len f 0 n)
-    (λ k l. get_or-map-range_with_len f 0 n k k 0 l (zero-add k) ∙ e k l)
 
 module _ (xs : List ℕ) where
   pub cleared_long : length (cleared xs) ≡ length xs

@@ -1,9 +1,9 @@
 -- Reading answers Ok on just the two forms.
-use Rattle.std.proofs.Common.{◌≡◌, ℕ, ◌+◌, ◌-◌, ◌*◌, ◌/◌, ◌%◌, ◌<◌, ◌≤◌, Bool, true, false, cond, ◌&&◌, ◌||◌, eqb, ltb, List, [], ◌∷◌, map, length, get_or, take, drop, Some, None, Ok, Err, Option, Result, sym, refl, ap, ◌∙◌, subst, ap₂, arith, lit<, lit≤}
+use Rattle.std.proofs.Common.{◌≡◌, ℕ, ◌+◌, ◌-◌, ◌*◌, ◌/◌, ◌%◌, ◌<◌, ◌≤◌, Bool, true, false, cond, ◌&&◌, ◌||◌, eqb, ltb, List, map, length, get_or, take, drop, Some, None, Ok, Err, Option, Result, sym, refl, ap, ◌∙◌, subst, ap₂, inl, inr, arith, lit<, lit≤}
 use Rattle.std.specs.List.{range_with_len}
 use Rattle.std.proofs.lemmas.List.FromFn.{fill_by_all}
 use Rattle.std.proofs.lemmas.List.{length-take, length-drop, get_or-take, get_or-drop}
-use Rattle.std.proofs.lemmas.Bool.{eqb-true, eq-eqb, ne_eqb, le-ltb, ltb-false, and_parts, and_from, cond_both, cond-false, and_right}
+use Rattle.std.proofs.lemmas.Bool.{cases_eq, eqb-true, eq-eqb, ne_eqb, le-ltb, ltb-false, and_parts, and_from, cond_both, cond-false, and_right}
 use Rattle.std.proofs.lemmas.Bool.Decides.{nat_tests}
 use Rattle.frame.specs.Units.{unit_check}
 use Rattle.frame.specs.Form.{kind_of, form_mark, allows, sealed, reply_frame, reply_check, link_allows}
@@ -19,8 +19,11 @@ use Rattle.terms.specs.declared.fault.FrameFault.TheVariants.{Form, Check}
 use Rattle.frame.specs.declared.frame.Kind.{Kind}
 use Rattle.frame.specs.declared.frame.Kind.TheVariants.{Protocol, Link}
 use Rattle.terms.specs.declared.mark.Mark.TheVariants.{Data, Control}
+use Rattle.terms.specs.Reply.{kind_byte}
 use Rattle.terms.specs.declared.reply.Reply.{Reply}
-use Rattle.frame.proofs.Links.{LinkForm, reply_marks_long, reply_named, reply_form, form_reply, word_of}
+use Rattle.terms.specs.declared.reply.ReplyKind.{ReplyKind}
+use Rattle.terms.specs.declared.reply.ReplyKind.TheVariants.{Ack, Nak}
+use Rattle.frame.proofs.Links.{LinkForm, kind_there, reply_marks_long, reply_named, reply_form, form_reply, word_of}
 use Rattle.frame.proofs.Lowest.{none_wrong, all_right}
 use Rattle.frame.proofs.Protocols.{ProtocolForm, sized, sealed_long, sealed_byte, sealed_form, form_packet, form_sealed, allowed_start, id_there}
 
@@ -178,10 +181,6 @@ reading_says f groups g (Ok x) e =
     held_says (kind_of f) f groups g x (ok_as (kind_of f) f groups g x p.1)
 reading_says f groups g (Err fault) e = λ good. let p = good_ok f good in clash (e ∙ p.1)
 
--- what the code answers step by step
-pub protocol_answer : (f : FrameM) → Ok tt ≡ form_checked Protocol f → Ok tt ≡ units_checked f → Ok (content.Packet (byte_at f 1) (length f.bytes)) ≡ reading_as Protocol f
-protocol_answer f a b = ap₂ (λ r s. then r (then s (Ok (content.Packet (byte_at f 1) (length f.bytes))))) a b
-
 pub link_answer : (f : FrameM) (b : Bool) → length f.bytes ≤ 128 → Ok tt ≡ form_checked Link f → link_right f ≡ b → cond b (Ok (content.Reply (reply_of f))) (Err (Check 14)) ≡ reading_as Link f
 link_answer f b short a right =
     ap₂ (λ r s. then r (cond s (Ok (content.Reply (reply_of f))) (Err (Check 14)))) a (sym right)
@@ -195,11 +194,12 @@ pub sync_answer : (f : FrameM) (e : FrameFault) → Err e ≡ sync_checked f →
 unfolding reading
 sync_answer f e a = ap (λ r. then r (reading_as (kind_of f) f)) a
 
--- a link form's eight bytes are a reply's
-pub word_there : (f : FrameM) → length f.bytes ≡ 128 → Ok tt ≡ form_checked Link f → take 8 (drop 8 f.bytes) ≡ word_bytes (byte_at f 9) (byte_at f 10) (byte_at f 14) (byte_at f 15)
+-- a link form's eight bytes are those of the reply that it names
+pub word_there : (f : FrameM) → length f.bytes ≡ 128 → Ok tt ≡ form_checked Link f → take 8 (drop 8 f.bytes) ≡ word_bytes (reply_of f) (byte_at f 14) (byte_at f 15)
 word_there f one a =
     let allowed = (right_form Link f (sym a)).1 in
     let tag : byte_at f 8 ≡ 0xA5 = tag_is (byte_at f 8) (allowed 8 (omega arith)) in
+    let kind : byte_at f 9 ≡ kind_byte (reply_of f).kind = kind_there (byte_at f 9) (allowed 9 (omega arith)) in
     let zero : (k : ℕ) → 11 ≤ k → k < 14 → byte_at f k ≡ 0 = λ k l h. zero_is k (byte_at f k) l h (allowed k (omega arith)) in
     let first = zero 11 (lit≤ tt) (lit< tt) in
     let second = zero 12 (lit≤ tt) (lit< tt) in
@@ -208,15 +208,31 @@ word_there f one a =
     fill_by_all (λ i. byte_at f (8 + i)) (take 8 (drop 8 f.bytes)) 8 0 (simp (length-take, length-drop) (omega arith)) (λ i h. get_or-take 8 (drop 8 f.bytes) i 0 h ∙ get_or-drop 8 f.bytes i 0) in
     cc
 
--- a link frame's check is right where its two bytes are those of the check, low byte first
-pub right_is : (f : FrameM) (r : Reply) (x : ℕ) (bs : List ℕ) (low high : ℕ) → r ≡ reply_of f → x ≡ reply_check r → x < 65536 → bs ≡ x % 256 ∷ (x / 256 % 256 ∷ [])
-    → low ≡ byte_at f 14 → high ≡ byte_at f 15 → word_check f ≡ reply_check (reply_of f) → link_right f ≡ (eqb low (get_or bs 0 0) && eqb high (get_or bs 1 0))
-right_is f r x bs low high named check fits bytes l h word =
-    let c : x ≡ word_check f = check ∙ ap reply_check named ∙ sym word in
-    let top : x / 256 % 256 ≡ x / 256 = omega arith in
-    ap₂ (λ a b. a && b)
-    (ap₂ eqb (sym l) (ap (λ n. n % 256) (sym c) ∙ sym (ap (λ (z : List ℕ). get_or z 0 0) bytes)))
-    (ap₂ eqb (sym h) (ap (λ n. n / 256) (sym c) ∙ sym top ∙ sym (ap (λ (z : List ℕ). get_or z 1 0) bytes)))
+kind_from : (k m : ReplyKind) → kind_byte k ≡ kind_byte m → k ≡ m
+kind_from Ack Ack e = refl
+kind_from Ack Nak e = absurd (omega arith)
+kind_from Nak Ack e = absurd (omega arith)
+kind_from Nak Nak e = refl
+
+-- two numbers are the same where their low bytes and the rest are
+halves : (x y : ℕ) → (eqb (x % 256) (y % 256) && eqb (x / 256) (y / 256)) ≡ eqb x y
+halves x y = elim (cases_eq x y) [
+  | inl e ↦ and_from _ _ (eq-eqb _ _ (ap (λ n. n % 256) e)) (eq-eqb _ _ (ap (λ n. n / 256) e)) ∙ sym (eq-eqb x y e)
+  | inr ne ↦ grind (arith, nat_tests)
+]
+
+-- a reply by its bytes
+pub named_by : (r s : Reply) (a b c d : ℕ) → word_bytes r a b ≡ word_bytes s c d → r ≡ s
+named_by r s a b c d e =
+    ap₂ {C = Reply} (λ k i. record { kind = k; id = i })
+    (kind_from r.kind s.kind (ap (λ (l : List ℕ). get_or l 1 0) e))
+    (ap (λ (l : List ℕ). get_or l 2 0) e)
+
+-- a link frame's check is right where its two bytes, low byte first, are the number of the check
+pub right_is : (f : FrameM) (x : ℕ) → x % 256 ≡ byte_at f 14 → x / 256 ≡ byte_at f 15 → word_check f ≡ reply_check (reply_of f) → link_right f ≡ eqb x (reply_check (reply_of f))
+right_is f x low high word =
+    ap₂ (λ a b. a && b) (ap₂ eqb (sym low) (ap (λ n. n % 256) word)) (ap₂ eqb (sym high) (ap (λ n. n / 256) word))
+    ∙ halves x (reply_check (reply_of f))
 
 -- where a link form was checked, the check of the frame's own bytes is that of the reply that it names
 pub form_word : (f : FrameM) → length f.bytes ≡ 128 → Ok tt ≡ form_checked Link f → word_check f ≡ reply_check (reply_of f)

@@ -1,57 +1,108 @@
--- A frame of the code and what it says.
-use Rattle.std.proofs.Common.{◌≡◌, ℕ, ◌*◌, ◌<◌, ◌≤◌, List, length, get_or, take, set, sym, ap, ◌∙◌, arith}
+-- A frame, a packet and the room that they stand in.
+use Rattle.std.proofs.Common.{◌≡◌, ℕ, ◌+◌, ◌-◌, ◌*◌, ◌<◌, ◌≤◌, List, length, get_or, take, drop, replicate, set, sym, ap, ◌∙◌, subst, ap₂, arith, length-append}
 use lib.Bits.{bit_xor}
 use lib.Seq.{take-set-lt}
-use Rattle.std.proofs.lemmas.List.{get_or-take, length-take, set_past}
-use Rattle.frame.specs.Frame.{Grouped, view, parted, byte_at, flipped, marked}
-use Rattle.frame.specs.Packet.{IsPacket, packet_bytes}
-use Rattle.frame.specs.declared.packet.Packet.{Packet}
-use Rattle.frame.proofs.Protocols.{one_of_five_is}
-use Rattle.frame.specs.declared.frame.Frame.{Frame}
+use Rattle.std.proofs.lemmas.List.{get_or-take, length-replicate, length-set, drop-set-lt, set_past, take_at, drop_at}
+use Rattle.frame.specs.Frame.{FrameM, Grouped, parted, byte_at, flipped, marked}
+use Rattle.frame.specs.Packet.{IsPacket}
+use Rattle.frame.specs.Room.{in_room, Blank, PacketRoom, front, FrameRoom}
+use Rattle.frame.proofs.Protocols.{sized}
 use Rattle.terms.specs.declared.mark.Mark.{Mark}
 use Rattle.terms.specs.declared.mark.Mark.TheVariants.{Zero}
 
--- the front of the room, one item of it changed
-pub front_set : {X : Type 0} (n : ℕ) (xs : List X) (k : ℕ) (x : X) → k < n → take n (set xs k x) ≡ set (take n xs) k x
-front_set n xs k x h = take-set-lt n xs k x h
+-- room that was made of items is blank behind them, and begins with them
+module _ {X : Type 0} (size : ℕ) (blank : X) (n : ℕ) (xs room : List X) (is : room ≡ in_room size blank xs) (l : length xs ≡ n) (few : n ≤ size) where
+  pub made_front : take n room ≡ xs
+  made_front = ap (take n) is ∙ take_at xs (replicate (size - length xs) blank) n l
 
-pub front_past : {X : Type 0} (n : ℕ) (xs : List X) (k : ℕ) (x : X) → n ≤ length xs → n ≤ k → take n xs ≡ set (take n xs) k x
-front_past n xs k x l h = sym (set_past (take n xs) k x (simp length-take (omega arith)))
-
-module _ (f : Frame) where
-  pub grouped : Grouped (view f) f.groups
-  grouped = record {
-    some = f.some;
-    few = f.few;
-    bytes_long = simp length-take (omega (arith, f.few, f.byte_room));
-    marks_long = simp length-take (omega (arith, f.few, f.mark_room));
+  pub made_blank : Blank size blank n room
+  made_blank = record {
+    long = ap length is ∙ length-append xs (replicate (size - length xs) blank) ∙ ap (λ k. length xs + k) (length-replicate (size - length xs) blank) ∙ omega arith;
+    rest = ap (drop n) is ∙ drop_at xs (replicate (size - length xs) blank) n l ∙ ap (λ k. replicate (size - k) blank) l;
   }
 
-  pub view_byte : (k : ℕ) → k < 128 * f.groups → get_or f.bytes k 0 ≡ byte_at (view f) k
-  view_byte k h = sym (get_or-take (128 * f.groups) f.bytes k 0 h)
+-- room with one item of the front changed
+module _ {X : Type 0} (size : ℕ) (blank : X) (n : ℕ) (room : List X) (b : Blank size blank n room) (k : ℕ) (x : X) (h : k < n) where
+  pub set_blank : Blank size blank n (set room k x)
+  set_blank = record { long = length-set room k x ∙ b.long; rest = drop-set-lt n room k x h ∙ b.rest }
 
-  pub view_mark : (c : ℕ) → c < 8 * f.groups → get_or f.marks c Zero ≡ get_or (view f).marks c Zero
-  view_mark c h = sym (get_or-take (8 * f.groups) f.marks c Zero h)
+  pub set_front : take n (set room k x) ≡ set (take n room) k x
+  set_front = take-set-lt n room k x h
 
-  pub view_flipped : (k m : ℕ) → k < 128 * f.groups → parted (take (128 * f.groups) (set f.bytes k (bit_xor (get_or f.bytes k 0) m))) (view f).marks ≡ flipped (view f) k m
+-- items that are a frame, and their room
+module _ (groups : ℕ) (xs bytes : List ℕ) (ms marks : List Mark) (byte_is : bytes ≡ in_room 640 0 xs) (mark_is : marks ≡ in_room 40 Zero ms) (g : Grouped (parted xs ms) groups) where
+  pub made : front groups bytes marks ≡ parted xs ms
+  made =
+      let few = g.few in
+      ap₂ parted
+      (made_front 640 0 (128 * groups) xs bytes byte_is g.bytes_long (omega arith))
+      (made_front 40 Zero (8 * groups) ms marks mark_is g.marks_long (omega arith))
+
+  pub made_room : FrameRoom groups bytes marks
+  made_room =
+      let few = g.few in
+      record {
+        frame = subst (λ f. Grouped f groups) (sym made) g;
+        byte_room = made_blank 640 0 (128 * groups) xs bytes byte_is g.bytes_long (omega arith);
+        mark_room = made_blank 40 Zero (8 * groups) ms marks mark_is g.marks_long (omega arith);
+      }
+
+-- the frame that stands in a room
+module _ (groups : ℕ) (bytes : List ℕ) (marks : List Mark) (r : FrameRoom groups bytes marks) where
+  abbrev frame : FrameM
+  frame = front groups bytes marks
+
+  pub view_byte : (k : ℕ) → k < 128 * groups → get_or bytes k 0 ≡ byte_at frame k
+  view_byte k h = sym (get_or-take (128 * groups) bytes k 0 h)
+
+  pub view_flipped : (k m : ℕ) → k < 128 * groups → front groups (set bytes k (bit_xor (get_or bytes k 0) m)) marks ≡ flipped frame k m
   view_flipped k m h =
-      ap (λ bs. parted bs (view f).marks)
-      (front_set (128 * f.groups) f.bytes k _ h ∙ ap (λ b. set (view f).bytes k (bit_xor b m)) (view_byte k h))
+      ap (λ bs. parted bs frame.marks)
+      (set_front 640 0 (128 * groups) bytes r.byte_room k _ h ∙ ap (λ b. set frame.bytes k (bit_xor b m)) (view_byte k h))
 
-  pub view_past : (k m : ℕ) → 128 * f.groups ≤ k → view f ≡ flipped (view f) k m
-  view_past k m h = ap (λ bs. parted bs (view f).marks) (front_past (128 * f.groups) f.bytes k _ (omega (arith, f.few, f.byte_room)) h)
+  pub view_past : (k m : ℕ) → 128 * groups ≤ k → frame ≡ flipped frame k m
+  view_past k m h = ap (λ bs. parted bs frame.marks) (sym (set_past frame.bytes k _ (omega (arith, r.frame.bytes_long))))
 
-  pub view_marked : (c : ℕ) (m : Mark) → c < 8 * f.groups → parted (view f).bytes (take (8 * f.groups) (set f.marks c m)) ≡ marked (view f) c m
-  view_marked c m h = ap (parted (view f).bytes) (front_set (8 * f.groups) f.marks c m h)
+  pub view_marked : (c : ℕ) (m : Mark) → c < 8 * groups → front groups bytes (set marks c m) ≡ marked frame c m
+  view_marked c m h = ap (parted frame.bytes) (set_front 40 Zero (8 * groups) marks r.mark_room c m h)
 
-  pub view_unmarked : (c : ℕ) (m : Mark) → 8 * f.groups ≤ c → view f ≡ marked (view f) c m
-  view_unmarked c m h = ap (parted (view f).bytes) (front_past (8 * f.groups) f.marks c m (omega (arith, f.few, f.mark_room)) h)
+  pub view_unmarked : (c : ℕ) (m : Mark) → 8 * groups ≤ c → frame ≡ marked frame c m
+  view_unmarked c m h = ap (parted frame.bytes) (sym (set_past frame.marks c m (omega (arith, r.frame.marks_long))))
 
--- a packet of the code is one
-pub packet_is : (p : Packet) → IsPacket (packet_bytes p)
-packet_is p =
-    let l : length (packet_bytes p) ≡ 128 * p.groups = simp length-take (omega (arith, p.few, p.room)) in
-    record {
-      long = one_of_five_is (length (packet_bytes p)) (record { whole = omega arith; some = omega (arith, p.some); few = omega (arith, p.few) });
-      clear = p.clear;
-    }
+  pub flipped_room : (k v : ℕ) → k < 128 * groups → FrameRoom groups (set bytes k v) marks
+  flipped_room k v h = record {
+    frame = record {
+      some = r.frame.some;
+      few = r.frame.few;
+      bytes_long = ap length (set_front 640 0 (128 * groups) bytes r.byte_room k v h) ∙ length-set frame.bytes k v ∙ r.frame.bytes_long;
+      marks_long = r.frame.marks_long;
+    };
+    byte_room = set_blank 640 0 (128 * groups) bytes r.byte_room k v h;
+    mark_room = r.mark_room;
+  }
+
+  pub marked_room : (c : ℕ) (m : Mark) → c < 8 * groups → FrameRoom groups bytes (set marks c m)
+  marked_room c m h = record {
+    frame = record {
+      some = r.frame.some;
+      few = r.frame.few;
+      bytes_long = r.frame.bytes_long;
+      marks_long = ap length (set_front 40 Zero (8 * groups) marks r.mark_room c m h) ∙ length-set frame.marks c m ∙ r.frame.marks_long;
+    };
+    byte_room = r.byte_room;
+    mark_room = set_blank 40 Zero (8 * groups) marks r.mark_room c m h;
+  }
+
+-- bytes that are a packet, and their room
+module _ (groups : ℕ) (xs bytes : List ℕ) (is : bytes ≡ in_room 640 0 xs) (long : 128 * groups ≡ length xs) (p : IsPacket xs) where
+  pub packet_made : take (128 * groups) bytes ≡ xs
+  packet_made = let s = (sized (length xs) p.long).few in made_front 640 0 (128 * groups) xs bytes is (sym long) (omega arith)
+
+  pub packet_room : PacketRoom groups bytes
+  packet_room =
+      let s = (sized (length xs) p.long).few in
+      record {
+        few = omega arith;
+        packet = subst IsPacket (sym packet_made) p;
+        room = made_blank 640 0 (128 * groups) xs bytes is (sym long) (omega arith);
+      }

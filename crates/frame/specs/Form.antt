@@ -1,5 +1,5 @@
 -- The two forms of a frame: what each place and each character holds.
-use Rattle.std.specs.Prelude.{ℕ, ◌+◌, ◌-◌, ◌/◌, ◌%◌, Bool, true, cond, ◌&&◌, ◌||◌, List, [], ◌∷◌, map, length, ◌==◌, nat_le, nat_lt, slice_index, slice_set}
+use Rattle.std.specs.Prelude.{ℕ, ◌+◌, ◌-◌, ◌/◌, ◌%◌, Bool, true, false, cond, ◌&&◌, ◌||◌, List, [], ◌∷◌, map, length, ◌==◌, nat_le, nat_lt, slice_index, slice_set}
 use Rattle.std.specs.List.{range_with_len}
 use Rattle.crc.specs.Check.{link_check}
 use Rattle.frame.specs.Units.{unit_check}
@@ -8,12 +8,19 @@ use Rattle.frame.specs.declared.frame.Kind.{Kind}
 use Rattle.frame.specs.declared.frame.Kind.TheVariants.{Protocol, Link}
 use Rattle.terms.specs.Reply.{kind_byte}
 use Rattle.terms.specs.declared.mark.Mark.{Mark}
-use Rattle.terms.specs.declared.mark.Mark.TheVariants.{Data, Control}
+use Rattle.terms.specs.declared.mark.Mark.TheVariants.{Zero, Data, Control, Three}
 use Rattle.terms.specs.declared.reply.Reply.{Reply}
 
 -- link kind exactly if character 0 has mark 2 and place 0 is 0x5C
 abbrev pub kind_of : FrameM → Kind
 kind_of f = cond (mark_at f 0 == 2 && byte_at f 0 == 0x5C) Link Protocol
+
+-- a mark that is no sync error
+abbrev pub is_synced : Mark → Bool
+is_synced Zero = false
+is_synced Data = true
+is_synced Control = true
+is_synced Three = false
 
 -- the mark of character c of n: in a link frame all are control, in a protocol frame the first and the last are
 abbrev pub form_mark : Kind → ℕ → ℕ → Mark

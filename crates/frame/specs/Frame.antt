@@ -1,20 +1,15 @@
 -- A frame as the rules speak of it: its bytes and its marks.
-use Rattle.std.specs.Prelude.{◌≡◌, ℕ, ◌*◌, ◌/◌, ◌≤◌, cond, List, length, take, Some, None, Option, ◌==◌, bit_xor, slice_index, slice_index_or, slice_set}
+use Rattle.std.specs.Prelude.{◌≡◌, ℕ, ◌*◌, ◌/◌, ◌≤◌, cond, List, length, Some, None, Option, ◌==◌, bit_xor, slice_index, slice_index_or, slice_set}
 use Rattle.terms.specs.Mark.{mark_number}
 use Rattle.frame.specs.Packet.{one_of_five}
 use Rattle.terms.specs.declared.fault.ShapeFault.{ShapeFault}
 use Rattle.terms.specs.declared.fault.ShapeFault.TheVariants.{Bytes, Marks}
-use Rattle.frame.specs.declared.frame.Frame.{Frame}
 use Rattle.terms.specs.declared.mark.Mark.{Mark}
 use Rattle.terms.specs.declared.mark.Mark.TheVariants.{Zero}
 
 pub record FrameM : Type 0 where
   pub bytes : List ℕ
   pub marks : List Mark
-
--- what a frame of the code says
-abbrev pub view : Frame → FrameM
-view f = record { bytes = take (128 * f.groups) f.bytes; marks = take (8 * f.groups) f.marks }
 
 -- the frame of these bytes and marks
 abbrev pub parted : List ℕ → List Mark → FrameM

@@ -4,7 +4,8 @@ pub mod Lowest
 pub mod Packet
 pub mod Reading
 pub mod Reserved
-pub mod Trailer
+pub mod Room
+pub mod Rooms
 pub mod Units
 pub mod Unpacking
 pub mod Word

@@ -1,18 +1,13 @@
 -- A packet: its bytes, and which bytes are one.
-use Rattle.std.specs.Prelude.{◌≡◌, ℕ, ◌*◌, ◌%◌, Bool, true, cond, not, ◌&&◌, ◌||◌, List, length, take, Some, None, Option, ◌==◌, nat_le, slice_index}
+use Rattle.std.specs.Prelude.{◌≡◌, ℕ, ◌%◌, Bool, true, cond, not, ◌&&◌, ◌||◌, List, length, Some, None, Option, ◌==◌, nat_le, slice_index}
 use Rattle.frame.specs.Lowest.{lowest_wrong}
 use Rattle.frame.specs.Reserved.{reserved, cleared}
 use Rattle.terms.specs.declared.fault.PacketFault.{PacketFault}
 use Rattle.terms.specs.declared.fault.PacketFault.TheVariants.{Length, Reserved}
-use Rattle.frame.specs.declared.packet.Packet.{Packet}
 
 -- the five lengths: 128, 256, 384, 512 and 640
 abbrev pub one_of_five : ℕ → Bool
 one_of_five n = n % 128 == 0 && nat_le 128 n && nat_le n 640
-
--- the bytes of a packet
-abbrev pub packet_bytes : Packet → List ℕ
-packet_bytes p = take (128 * p.groups) p.bytes
 
 -- one of the five lengths, and zero at every reserved place
 pub record IsPacket (xs : List ℕ) : Type 0 where

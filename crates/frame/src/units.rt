@@ -1,18 +1,20 @@
 // The unit checks of a frame.
-ghost use Rattle.std.specs.Prelude.{◌≡◌, ℕ, ◌%◌, ◌<◌, ◌≤◌, length, slice_index};
+ghost use Rattle.std.specs.Prelude.{◌≡◌, ◌<◌, length, map, IsTrue};
+ghost use Rattle.std.specs.List.{range_with_len};
+ghost use Rattle.frame.specs.Packet.{one_of_five};
 ghost use Rattle.frame.specs.Units.{unit_check};
 
 use crc::unit::UnitCheck;
+use std::array;
 
 // The check of a unit of one to five whole groups.
 fn unit_check(bytes: &[u8], unit: usize) -> u8
     requires unit { unit < 8 }
-    requires groups { length bytes.now % 128 ≡ 0 }
-    requires some { 128 ≤ length bytes.now }
-    requires few { length bytes.now ≤ 640 }
+    requires whole { IsTrue (one_of_five (length bytes.now)) }
     ensures { result ≡ unit_check bytes.now unit }
 {
     let mut check = UnitCheck::new();
+    // By the number of the group, since its place in the frame says what counts.
     for g in 0..bytes.len() / 128 {
         let at = 128 * g + 16 * unit;
         let lead = if at == 0 { 1 } else { 0 };
@@ -26,15 +28,8 @@ fn unit_check(bytes: &[u8], unit: usize) -> u8
 
 // The checks of the eight units of one to five whole groups.
 pub(crate) fn unit_checks(bytes: &[u8]) -> [u8; 8]
-    requires groups { length bytes.now % 128 ≡ 0 }
-    requires some { 128 ≤ length bytes.now }
-    requires few { length bytes.now ≤ 640 }
-    ensures long { length result ≡ 8 }
-    ensures each { (j : ℕ) → j < 8 → slice_index result j ≡ unit_check bytes.now j }
+    requires whole { IsTrue (one_of_five (length bytes.now)) }
+    ensures { result ≡ map (unit_check bytes.now) (range_with_len 0 8) }
 {
-    let mut checks = [0; 8];
-    for unit in 0..8 {
-        checks[unit] = unit_check(bytes, unit);
-    }
-    checks
+    array::from_fn(|unit| unit_check(bytes, unit))
 }

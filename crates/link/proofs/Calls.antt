@@ -13,7 +13,7 @@ use Rattle.frame.specs.Frame.{FrameM, Grouped}
 use Rattle.frame.specs.Packet.{IsPacket}
 use Rattle.frame.specs.Reading.{reading, Broken, Says}
 use Rattle.frame.specs.Reserved.{cleared}
-use Rattle.frame.proofs.Copies.{front_is}
+use Rattle.std.proofs.lemmas.List.{take_at}
 use Rattle.frame.proofs.Protocols.{sealed_cleared}
 use Rattle.frame.proofs.Readings.{reads_sealed, reads_reply, reading_says}
 use Rattle.carrier.proofs.Harms.{says_good}
@@ -62,7 +62,7 @@ module _ {X : Type 0} (g : FrameM → List X) (broken_holds : (f : FrameM) (e : 
   joined_push (e ∷ w) f = ap (λ l. g e ++ l) (joined_push w f) ∙ sym (append_assoc (g e) (flat_map g w) (g f))
 
   unless_good : (f : FrameM) → Broken f → (r : Result Content FrameFault) → reading f ≡ r → Says f r → g f ≡ []
-  unless_good f b (Ok x) e says = absurd (b (says_good f x says))
+  unless_good f b (Ok x) e says = absurd (b (says_good f (Ok x) refl says))
   unless_good f b (Err x) e _ = broken_holds f x e
 
   broken_none : (f : FrameM) (groups : ℕ) → Grouped f groups → Broken f → g f ≡ []
@@ -244,7 +244,7 @@ module _ (near far : EndM) (there back : List FrameM) (T U : List (List ℕ)) (R
       expected_front = rw (ap (λ r. packet_of r f) e) at there_front
 
       first_bytes : take n (cleared f.bytes ++ drop n buffer) ≡ cleared f.bytes
-      first_bytes = front_is _ (cleared f.bytes) (drop n buffer) n refl (Direction.size_is n (cleared f.bytes) expected_front)
+      first_bytes = take_at (cleared f.bytes) (drop n buffer) n (sym (Direction.size_is n (cleared f.bytes) expected_front))
 
       far_hands : Between near (accept far) rest back T (U ++ (take n (cleared f.bytes ++ drop n buffer) ∷ [])) R
       far_hands = rw first_bytes (Direction.hands n (cleared f.bytes) (flat_map name_in back) (waiting_name far.waiting) expected_front)

@@ -1,6 +1,5 @@
 // What a straight carrier does.
 ghost use Rattle.std.specs.Prelude.{◌≡◌, refl, [], ◌∷◌, ◌++◌, IfOk, MatchResult};
-ghost use Rattle.frame.specs.Frame.{view};
 ghost use Rattle.carrier.specs.Carrying.{groups_of, putting};
 ghost use Rattle.carrier.specs.Straight.{straight_waiting, straight_full};
 
@@ -36,10 +35,10 @@ impl Carrier for Straight {
     }
 
     fn put(&mut self, frame: &Frame) -> Result<(), CarrierFault>
-        ensures answer { result ≡ putting (straight_full (straight_waiting self.old) (groups_of (view frame.now))) }
-        ensures unharmed { MatchResult result (λ _. straight_waiting self.new ≡ straight_waiting self.old ++ view frame.now ∷ []) (λ _. self.new ≡ self.old) }
+        ensures answer { result ≡ putting (straight_full (straight_waiting self.old) (groups_of frame.now)) }
+        ensures unharmed { MatchResult result (λ _. straight_waiting self.new ≡ straight_waiting self.old ++ frame.now ∷ []) (λ _. self.new ≡ self.old) }
     {
-        if ROOM <= self.queue.len() {
+        if self.is_full(frame.groups()) {
             return Err(CarrierFault::Full);
         }
         self.queue.push_back_reserved(*frame);

@@ -3,9 +3,8 @@ ghost use Rattle.std.specs.Prelude.{◌≡◌, length, Some, None, MatchResult};
 ghost use Rattle.std.specs.Option.{option_map};
 ghost use Rattle.frame.specs.Form.{sealed, reply_frame};
 ghost use Rattle.frame.specs.Frame.{parted, parts_fault, flipped, marked};
-ghost use Rattle.frame.specs.Packet.{packet_bytes};
 ghost use Rattle.frame.specs.Reading.{reading};
-ghost use Rattle.commands.specs.Session.{held, unless, on_frame, load_fault, load_bytes, seal_answer, shape_trouble, raw_answer, flip_answer, mark_answer, read_answer, unpack_answer, UnpackSays, show_answer};
+ghost use Rattle.commands.specs.Session.{unless, on_frame, load_fault, load_bytes, seal_answer, shape_trouble, raw_answer, flip_answer, mark_answer, read_answer, unpack_answer, UnpackSays, show_answer};
 ghost use Rattle.commands.specs.declared.answer.Answer.TheVariants.{Made};
 ghost use Rattle.commands.specs.declared.trouble.Trouble.TheVariants.{NoFrame};
 
@@ -25,7 +24,7 @@ use terms::reply::Reply;
 const UNTOUCHED: u8 = 0xEE;
 
 fn packet(load: &Load) -> Result<Packet, PacketFault>
-    ensures { MatchResult result (λ p. (load_fault load.now ≡ None) × (packet_bytes p ≡ load_bytes load.now)) (λ f. load_fault load.now ≡ Some f) }
+    ensures { MatchResult result (λ p. (load_fault load.now ≡ None) × (p ≡ load_bytes load.now)) (λ f. load_fault load.now ≡ Some f) }
 {
     match load {
         Load::Filled { size, fill } => Packet::filled(*size, *fill),
@@ -65,7 +64,7 @@ impl Session {
     // A refused packet leaves the current frame as it was.
     pub(super) fn seal(&mut self, id: u8, load: &Load) -> Answer
         ensures answer { result ≡ seal_answer (load_fault load.now) id (length (load_bytes load.now)) }
-        ensures after { held self.new ≡ unless (load_fault load.now) (sealed id (load_bytes load.now)) (held self.old) }
+        ensures after { self.new.frame ≡ unless (load_fault load.now) (sealed id (load_bytes load.now)) self.old.frame }
         ensures kept { self.new.carrier ≡ self.old.carrier }
     {
         match packet(load) {
@@ -82,7 +81,7 @@ impl Session {
 
     pub(super) fn reply(&mut self, reply: Reply) -> Answer
         ensures answer { result ≡ Made reply }
-        ensures after { held self.new ≡ Some (reply_frame reply) }
+        ensures after { self.new.frame ≡ Some (reply_frame reply) }
         ensures kept { self.new.carrier ≡ self.old.carrier }
     {
         self.frame = Some(Frame::reply(reply));
@@ -91,28 +90,29 @@ impl Session {
 
     pub(super) fn raw(&mut self, bytes: &[u8], marks: &[Mark]) -> Result<Answer, Trouble>
         ensures answer { result ≡ raw_answer (parts_fault (length bytes.now) (length marks.now)) (length bytes.now) (length marks.now) }
-        ensures after { held self.new ≡ unless (parts_fault (length bytes.now) (length marks.now)) (parted bytes.now marks.now) (held self.old) }
+        ensures after { self.new.frame ≡ unless (parts_fault (length bytes.now) (length marks.now)) (parted bytes.now marks.now) self.old.frame }
         ensures kept { self.new.carrier ≡ self.old.carrier }
     {
-        match Frame::from_parts(bytes, marks) {
-            Ok(frame) => {
-                self.frame = Some(frame);
-                Ok(Answer::Framed {
-                    groups: frame.groups(),
-                })
-            }
-            Err(fault) => Err(shape_trouble(fault, bytes.len(), marks.len())),
-        }
+        let frame = Frame::from_parts(bytes, marks).map_err(|fault| shape_trouble(
+            fault,
+            bytes.len(),
+            marks.len(),
+        ))?;
+        self.frame = Some(frame);
+        Ok(Answer::Framed {
+            groups: frame.groups(),
+        })
     }
 
     pub(super) fn flip(&mut self, place: usize, mask: u8) -> Result<Answer, Trouble>
-        ensures answer { result ≡ on_frame (held self.old) (flip_answer place mask) }
-        ensures after { held self.new ≡ option_map (λ f. flipped f place mask) (held self.old) }
+        ensures answer { result ≡ on_frame self.old.frame (flip_answer place mask) }
+        ensures after { self.new.frame ≡ option_map (λ f. flipped f place mask) self.old.frame }
         ensures kept { self.new.carrier ≡ self.old.carrier }
     {
-        let mut frame = self.current()?;
+        let Some(frame) = &mut self.frame else {
+            return Err(Trouble::NoFrame);
+        };
         frame.flip(place, mask);
-        self.frame = Some(frame);
         if place < frame.bytes().len() {
             Ok(Answer::Flipped { place, mask })
         } else {
@@ -121,13 +121,14 @@ impl Session {
     }
 
     pub(super) fn mark(&mut self, character: usize, mark: Mark) -> Result<Answer, Trouble>
-        ensures answer { result ≡ on_frame (held self.old) (mark_answer character mark) }
-        ensures after { held self.new ≡ option_map (λ f. marked f character mark) (held self.old) }
+        ensures answer { result ≡ on_frame self.old.frame (mark_answer character mark) }
+        ensures after { self.new.frame ≡ option_map (λ f. marked f character mark) self.old.frame }
         ensures kept { self.new.carrier ≡ self.old.carrier }
     {
-        let mut frame = self.current()?;
+        let Some(frame) = &mut self.frame else {
+            return Err(Trouble::NoFrame);
+        };
         frame.set_mark(character, mark);
-        self.frame = Some(frame);
         if character < frame.marks().len() {
             Ok(Answer::Marked { character, mark })
         } else {
@@ -136,7 +137,7 @@ impl Session {
     }
 
     pub(super) fn read(&self) -> Result<Answer, Trouble>
-        ensures { result ≡ on_frame (held self.now) (λ f. read_answer (reading f)) }
+        ensures { result ≡ on_frame self.now.frame (λ f. read_answer (reading f)) }
     {
         match self.current()?.read() {
             Ok(content) => Ok(Answer::Good(content)),
@@ -145,7 +146,7 @@ impl Session {
     }
 
     pub(super) fn unpack(&self, heap: Global, size: usize) -> Result<Answer, Trouble>
-        ensures { UnpackSays (held self.now) size result }
+        ensures { UnpackSays self.now.frame size result }
     {
         let frame = self.current()?;
         let mut buffer = vec![in heap; UNTOUCHED; size]?;

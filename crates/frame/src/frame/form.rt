@@ -1,47 +1,49 @@
 // The form of a frame: its marks and its fixed bytes.
-ghost use Rattle.std.specs.Prelude.{◌≡◌, ◌<◌, ◌≤◌, map, length, take};
-ghost use Rattle.frame.specs.Form.{form_mark, allows};
-ghost use Rattle.frame.specs.Frame.{view};
-ghost use Rattle.frame.specs.Reading.{lowest_sync, lowest_mark, lowest_byte, sync_checked, form_checked};
-ghost use Rattle.std.specs.List.{range_with_len};
+ghost use Rattle.std.specs.Prelude.{◌≡◌, ℕ, ◌<◌, ◌≤◌, ◌==◌, not, length, map, position, IfSome};
+ghost use Rattle.frame.specs.Form.{form_mark, allows, is_synced};
+ghost use Rattle.frame.specs.Frame.{Grouped};
+ghost use Rattle.frame.specs.Reading.{sync_checked, form_checked};
+ghost use Rattle.frame.specs.Room.{in_room};
+ghost use Rattle.std.specs.List.{range_with_len, enumerate_from};
+ghost use Rattle.terms.specs.Mark.{mark_number};
+ghost use Rattle.terms.specs.declared.mark.Mark.TheVariants.{Zero};
 
 use crate::frame::{Frame, Kind, link, protocol};
+use crate::room;
+use std::array;
 use terms::fault::FrameFault;
 use terms::mark::Mark;
 
+// The byte at the end of both forms.
+pub(super) const END: u8 = 0xFD;
+
 // The mark of a character among so many.
 fn form_mark(kind: Kind, count: usize, character: usize) -> Mark
-    requires { character < count }
     ensures { result ≡ form_mark kind count character }
 {
     match kind {
-        Kind::Link => Mark::Control,
-        Kind::Protocol => {
-            if character == 0 || character + 1 == count {
-                Mark::Control
-            } else {
-                Mark::Data
-            }
-        }
+        Kind::Protocol if character != 0 && character != count.saturating_sub(1) => Mark::Data,
+        _ => Mark::Control,
     }
 }
 
-// The marks of so many characters, at the front of room for five groups.
+// The marks of a whole room, as if so many characters went on behind them.
+fn all_marks(kind: Kind, count: usize) -> [Mark; 40]
+    ensures { result ≡ map (form_mark kind count) (range_with_len 0 40) }
+{
+    array::from_fn(|character| form_mark(kind, count, character))
+}
+
+// The marks of so many characters, in room for five groups.
 pub(super) fn form_marks(kind: Kind, count: usize) -> [Mark; 40]
     requires { count ≤ 40 }
-    ensures long { length result ≡ 40 }
-    ensures front { take count result ≡ map (form_mark kind count) (range_with_len 0 count) }
+    ensures { result ≡ in_room 40 Zero (map (form_mark kind count) (range_with_len 0 count)) }
 {
-    let mut marks = [Mark::Zero; 40];
-    for character in 0..count {
-        marks[character] = form_mark(kind, count, character);
-    }
-    marks
+    room::in_room(Mark::Zero, &all_marks(kind, count)[..count])
 }
 
 // Whether the form lets a byte stand at a place of a frame of so many bytes.
 fn allows_byte(kind: Kind, size: usize, place: usize, byte: u8) -> bool
-    requires { place < size }
     ensures { result ≡ allows kind size place byte }
 {
     match kind {
@@ -51,61 +53,54 @@ fn allows_byte(kind: Kind, size: usize, place: usize, byte: u8) -> bool
 }
 
 impl Frame {
+    // The lowest character with a sync error.
     fn lowest_sync(&self) -> Option<usize>
-        ensures { result ≡ lowest_sync (view self.now) }
+        ensures lowest { result ≡ position (λ m. not (is_synced m)) self.now.marks }
+        ensures shape { (groups : ℕ) × Grouped self.now groups }
     {
-        let marks = self.marks();
-        for (character, mark) in marks.iter().enumerate() {
-            let number = u8::from(*mark);
-            if number != 1 && number != 2 {
-                return Some(character);
-            }
-        }
-        None
+        self.marks()
+            .iter()
+            .position(|mark| !matches!(mark, Mark::Data | Mark::Control))
     }
 
+    // The lowest character whose mark is not the form's.
     fn lowest_mark(&self, kind: Kind) -> Option<usize>
-        ensures { result ≡ lowest_mark kind (view self.now) }
+        ensures lowest { result ≡ position (λ p. not (mark_number p.1 == mark_number (form_mark kind (length self.now.marks) p.0))) (enumerate_from 0 self.now.marks) }
+        ensures few { IfSome result (λ c. c < 40) }
     {
         let marks = self.marks();
-        for (character, mark) in marks.iter().enumerate() {
-            if u8::from(*mark) != u8::from(form_mark(kind, marks.len(), character)) {
-                return Some(character);
-            }
-        }
-        None
+        let count = marks.len();
+        marks.iter().enumerate().position(|(character, mark)| *mark
+            != form_mark(kind, count, character))
     }
 
+    // The lowest place whose byte the form does not allow.
     fn lowest_byte(&self, kind: Kind) -> Option<usize>
-        ensures { result ≡ lowest_byte kind (view self.now) }
+        ensures { result ≡ position (λ p. not (allows kind (length self.now.bytes) p.0 p.1)) (enumerate_from 0 self.now.bytes) }
     {
         let bytes = self.bytes();
-        for (place, byte) in bytes.iter().enumerate() {
-            if !allows_byte(kind, bytes.len(), place, *byte) {
-                return Some(place);
-            }
-        }
-        None
+        let size = bytes.len();
+        bytes
+            .iter()
+            .enumerate()
+            .position(|(place, byte)| !allows_byte(kind, size, place, *byte))
     }
 
     pub(super) fn check_sync(&self) -> Result<(), FrameFault>
-        ensures { result ≡ sync_checked (view self.now) }
+        ensures checked { result ≡ sync_checked self.now }
+        ensures shape { (groups : ℕ) × Grouped self.now groups }
     {
-        match self.lowest_sync() {
-            Some(character) => Err(FrameFault::Sync(character)),
-            None => Ok(()),
-        }
+        self.lowest_sync()
+            .map_or(Ok(()), |character| Err(FrameFault::Sync(character)))
     }
 
     pub(super) fn check_form(&self, kind: Kind) -> Result<(), FrameFault>
-        ensures { result ≡ form_checked kind (view self.now) }
+        ensures { result ≡ form_checked kind self.now }
     {
         if let Some(character) = self.lowest_mark(kind) {
             return Err(FrameFault::Form(16 * character));
         }
-        match self.lowest_byte(kind) {
-            Some(place) => Err(FrameFault::Form(place)),
-            None => Ok(()),
-        }
+        self.lowest_byte(kind)
+            .map_or(Ok(()), |place| Err(FrameFault::Form(place)))
     }
 }

@@ -1,24 +1,24 @@
 // The link frame: a reply.
-ghost use Rattle.std.specs.Prelude.{◌≡◌, Ok};
+ghost use Rattle.std.specs.Prelude.{◌≡◌, map, Ok};
+ghost use Rattle.std.specs.List.{range_with_len};
 ghost use Rattle.frame.specs.Form.{link_allows, reply_check, link_byte, reply_frame};
-ghost use Rattle.frame.specs.Frame.{view};
 ghost use Rattle.frame.specs.Reading.{reading, reading_as};
 ghost use Rattle.frame.specs.Word.{Words};
 ghost use Rattle.terms.specs.declared.content.Content.TheVariants.{Reply as ReplyContent};
 ghost use Rattle.frame.specs.declared.frame.Kind.TheVariants.{Link as LinkKind};
 
-use crate::frame::form::form_marks;
+use crate::frame::form::{END, form_marks};
 use crate::frame::{Frame, Kind};
+use crate::room::in_room;
 use crc::link::link_check;
+use std::array;
 use terms::content::Content;
 use terms::fault::FrameFault;
 use terms::reply::{Reply, ReplyKind};
 
-const LEAD: u8 = 0x5C;
+pub(super) const LEAD: u8 = 0x5C;
 
 const TAG: u8 = 0xA5;
-
-const END: u8 = 0xFD;
 
 // Whether a byte may stand at a place of a link frame.
 pub(super) fn allows_byte(place: usize, byte: u8) -> bool
@@ -27,7 +27,7 @@ pub(super) fn allows_byte(place: usize, byte: u8) -> bool
     match place {
         0..=7 => byte == LEAD,
         8 => byte == TAG,
-        9 => byte == 0x00 || byte == 0x80,
+        9 => ReplyKind::try_from(byte).is_ok(),
         10 => true,
         11..=13 => byte == 0,
         14..=15 => true,
@@ -61,13 +61,18 @@ fn link_byte(reply: Reply, check: u16, place: usize) -> u8
     }
 }
 
+fn reply_bytes(reply: Reply) -> [u8; 128]
+    ensures { result ≡ map (link_byte reply) (range_with_len 0 128) }
+{
+    let check = reply_check(reply);
+    array::from_fn(|place| link_byte(reply, check, place))
+}
+
 // What the eight bytes of a reply say.
-#[derive(Clone, Copy)]
+#[derive(Clone, Copy, PartialEq, Eq, Debug)]
 struct Word {
-    kind: u8,
-    id: u8,
-    low: u8,
-    high: u8,
+    reply: Reply,
+    check: u16,
 }
 
 fn reply_word(part: &[u8]) -> Option<Word>
@@ -75,10 +80,11 @@ fn reply_word(part: &[u8]) -> Option<Word>
 {
     match part {
         [TAG, kind, id, 0, 0, 0, low, high] => Some(Word {
-            kind: *kind,
-            id: *id,
-            low: *low,
-            high: *high,
+            reply: Reply {
+                kind: ReplyKind::try_from(*kind).ok()?,
+                id: *id,
+            },
+            check: u16::from_le_bytes([*low, *high]),
         }),
         _ => None,
     }
@@ -87,40 +93,28 @@ fn reply_word(part: &[u8]) -> Option<Word>
 impl Frame {
     // The frame of a reply. Reading it gives that reply.
     pub fn reply(reply: Reply) -> Frame
-        ensures made { view result ≡ reply_frame reply }
-        ensures reads { reading (view result) ≡ Ok (ReplyContent reply) }
+        ensures made { result ≡ reply_frame reply }
+        ensures reads { reading result ≡ Ok (ReplyContent reply) }
     {
-        let check = reply_check(reply);
-        let mut bytes = [0; 640];
-        for place in 0..128 {
-            bytes[place] = link_byte(reply, check, place);
-        }
         Frame {
             groups: 1,
-            bytes,
+            bytes: in_room(0, &reply_bytes(reply)),
             marks: form_marks(Kind::Link, 8),
         }
     }
 
     pub(super) fn read_link(&self) -> Result<Content, FrameFault>
-        ensures { result ≡ reading_as LinkKind (view self.now) }
+        ensures { result ≡ reading_as LinkKind self.now }
     {
         if self.groups > 1 {
             return Err(FrameFault::Form(128));
         }
         self.check_form(Kind::Link)?;
         let Some(word) = reply_word(&self.bytes[8..16]) else {
-            return unreachable();
+            unreachable!()
         };
-        let kind = if word.kind == 0x80 {
-            ReplyKind::Nak
-        } else {
-            ReplyKind::Ack
-        };
-        let reply = Reply { kind, id: word.id };
-        let [low, high] = reply_check(reply).to_le_bytes();
-        if word.low == low && word.high == high {
-            Ok(Content::Reply(reply))
+        if word.check == reply_check(word.reply) {
+            Ok(Content::Reply(word.reply))
         } else {
             Err(FrameFault::Check(14))
         }

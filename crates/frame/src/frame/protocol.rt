@@ -1,94 +1,86 @@
 // The protocol frame: a packet under an ID.
-ghost use Rattle.std.specs.Prelude.{◌≡◌, ◌<◌, ◌≤◌, length, Ok};
+ghost use Rattle.std.specs.Prelude.{◌≡◌, ◌-◌, ◌≤◌, ◌++◌, ◌==◌, ◌<◌, not, length, take, replicate, position, IfSome, Ok};
+ghost use Rattle.std.specs.List.{zip};
 ghost use Rattle.frame.specs.Form.{protocol_allows, sealed};
-ghost use Rattle.frame.specs.Frame.{view};
-ghost use Rattle.frame.specs.Packet.{packet_bytes};
-ghost use Rattle.frame.specs.Reading.{reading, reading_as, units_checked, lowest_unit};
-ghost use Rattle.frame.specs.Trailer.{Trailed};
+ghost use Rattle.frame.specs.Reading.{reading, reading_as, units_checked};
 ghost use Rattle.frame.specs.Unpacking.{Unpacks};
 ghost use Rattle.frame.specs.declared.frame.Kind.TheVariants.{Protocol as ProtocolKind};
 ghost use Rattle.terms.specs.declared.content.Content.TheVariants.{Packet as PacketContent};
 
-use crate::frame::form::form_marks;
+use crate::frame::form::{END, form_marks};
 use crate::frame::{Frame, Kind};
 use crate::packet::Packet;
-use crate::room::copy_front;
+use crate::room::in_room;
 use crate::units::unit_checks;
 use terms::content::Content;
 use terms::fault::FrameFault;
 
 const START: u8 = 0xFB;
 
-const END: u8 = 0xFD;
-
 // Whether a byte may stand at a place of a protocol frame of so many bytes.
 pub(super) fn allows_byte(size: usize, place: usize, byte: u8) -> bool
-    requires { place < size }
     ensures { result ≡ protocol_allows size place byte }
 {
     match place {
         0 => byte == START,
-        _ if size - place <= 6 => byte == END,
+        _ if size.saturating_sub(6) <= place => byte == END,
         _ => true,
     }
 }
 
-// Writes the checks and the end into the last fourteen places.
-fn put_trailer(bytes: &mut [u8], size: usize, checks: &[u8])
-    requires room { (14 ≤ size) × (size ≤ length bytes.old) }
-    requires eight { length checks.now ≡ 8 }
-    ensures { Trailed bytes.old size checks.now 14 bytes.new }
+// The lowest place at which the bytes are not those that were expected.
+fn lowest_difference(bytes: &[u8], expected: &[u8]) -> Option<usize>
+    ensures lowest { result ≡ position (λ p. not (p.0 == p.1)) (zip bytes.now expected.now) }
+    ensures within { IfSome result (λ i. i < length expected.now) }
 {
-    for i in 0..14 {
-        bytes[size - 14 + i] = if i < 8 { checks[i] } else { END };
-    }
+    bytes.iter().zip(expected).position(|(b, e)| b != e)
+}
+
+// Writes the checks and the end into the last fourteen places.
+fn put_trailer(bytes: &mut [u8], checks: &[u8])
+    requires room { 14 ≤ length bytes.old }
+    requires eight { length checks.now ≡ 8 }
+    ensures { bytes.new ≡ take (length bytes.old - 14) bytes.old ++ checks.now ++ replicate 6 0xFD }
+{
+    let at = bytes.len() - 14;
+    bytes[at..at + 8].copy_from_slice(checks);
+    bytes[at + 8..].fill(END);
 }
 
 impl Frame {
     // The frame of a packet under an ID. Reading it gives the ID and the packet's length, and unpacking it the packet.
     pub fn seal(packet: &Packet, id: u8) -> Frame
-        ensures made { view result ≡ sealed id (packet_bytes packet.now) }
-        ensures reads { reading (view result) ≡ Ok (PacketContent id (length (packet_bytes packet.now))) }
-        ensures unpacks { Unpacks (view result) id (packet_bytes packet.now) }
+        ensures made { result ≡ sealed id packet.now }
+        ensures reads { reading result ≡ Ok (PacketContent id (length packet.now)) }
+        ensures unpacks { Unpacks result id packet.now }
     {
-        let body = packet.bytes();
-        let size = body.len();
-        let mut bytes = [0; 640];
-        copy_front(&mut bytes, body);
+        let size = packet.bytes().len();
+        let mut room = in_room(0, packet.bytes());
+        let bytes = &mut room[..size];
         bytes[1] = id;
-        let checks = unit_checks(&bytes[0..size]);
+        let checks = unit_checks(bytes);
         bytes[0] = START;
-        put_trailer(&mut bytes, size, &checks);
+        put_trailer(bytes, &checks);
         Frame {
             groups: size / 128,
-            bytes,
+            bytes: room,
             marks: form_marks(Kind::Protocol, size / 16),
         }
     }
 
-    fn lowest_unit(&self) -> Option<usize>
-        ensures { result ≡ lowest_unit (view self.now) }
+    fn check_units(&self) -> Result<(), FrameFault>
+        ensures { result ≡ units_checked self.now }
     {
         let bytes = self.bytes();
-        for (unit, check) in unit_checks(bytes).iter().enumerate() {
-            if bytes[bytes.len() - 14 + unit] != *check {
-                return Some(unit);
-            }
-        }
-        None
-    }
-
-    fn check_units(&self) -> Result<(), FrameFault>
-        ensures { result ≡ units_checked (view self.now) }
-    {
-        match self.lowest_unit() {
-            Some(unit) => Err(FrameFault::Check(128 * self.groups - 14 + unit)),
-            None => Ok(()),
-        }
+        let first = bytes.len() - 14;
+        lowest_difference(&bytes[first..], &unit_checks(bytes)).map_or(
+            Ok(()),
+            |unit| Err(FrameFault::Check(first + unit)),
+        )
     }
 
     pub(super) fn read_protocol(&self) -> Result<Content, FrameFault>
-        ensures { result ≡ reading_as ProtocolKind (view self.now) }
+        ensures { result ≡ reading_as ProtocolKind self.now }
     {
         self.check_form(Kind::Protocol)?;
         self.check_units()?;

@@ -1,19 +1,11 @@
-use Rattle.std.proofs.Common.{◌<◌, length, Some, ap, ◌∙◌, subst, inr}
-use Rattle.frame.specs.Frame.{view}
-use Rattle.frame.proofs.Views.{grouped}
-use Rattle.carrier.proofs.Harms.{says_good, flip_good, flip_like}
+use Rattle.std.proofs.Common.{◌<◌, length, ap, ◌∙◌, sym, subst, inr}
+use Rattle.carrier.proofs.Harms.{says_good, flip_like}
 use Rattle.carrier.proofs.harm.flip.Goals as goal
 
-pub returns-in-Ok : goal.returns-in-Ok
-returns-in-Ok c =
+pub returns-clause-worse : goal.returns-clause-worse
+returns-clause-worse c some =
     let f = c.args.frame.now in
-    let k = c.args.place in
-    let m = c.args.mask in
-    let x = c.in-Ok.field-0 in
-    let in' : k < length (view f).bytes = subst (λ n. k < n) (ap length c.bytes.ensures) c.if-bytes-place.false in
-    let after = c.flip.ensures.after in
-    record {
-      answer = ap Some after ∙ flip_good (view f) x k m in' c.in-Ok.ensures.answer;
-      worse = λ some.
-          inr (flip_like (view f) (view c.flip.new.self) f.groups k m (grouped f) after (c.flip.ensures.breaks (says_good (view f) x c.in-Ok.ensures.says) in' some));
-    }
+    let g = c.bytes.ensures.shape in
+    let in' : c.args.place < length f.bytes = subst (λ n. c.args.place < n) (ap length c.bytes.ensures.bytes) c.if-bytes-place.false in
+    let good = says_good f c.read.result (sym c.is_err.ensures.value ∙ c.if-is_err.false) c.read.ensures.says in
+    inr (flip_like f c.flip.new.self g.0 c.args.place c.args.mask g.1 c.flip.ensures.after (c.flip.ensures.breaks good in' some))

@@ -1,28 +1,33 @@
-use Rattle.std.proofs.Common.{◌<◌, sym, subst, arith, rules}
-use Rattle.frame.specs.Frame.{view}
+use Rattle.std.proofs.Common.{◌≡◌, ◌<◌, sym, ap, ◌∙◌, subst, arith, rules}
+use Rattle.frame.specs.Frame.{Grouped, byte_at, flipped}
 use Rattle.frame.specs.Reading.{Broken}
 use Rattle.frame.proofs.Flips.{flip_breaks}
-use Rattle.frame.proofs.Views.{grouped, view_byte, view_flipped, view_past}
+use Rattle.frame.proofs.Views.{view_byte, view_flipped, view_past, flipped_room}
 use Rattle.frame.proofs.frame.Frame.flip.Goals as goal
+
+pub invariant_of-self : goal.invariant_of-self
+invariant_of-self c = flipped_room _ _ _ c.self.invariant c.args.place _ c.if-place-self.true
 
 pub returns-then-place-self : goal.returns-then-place-self
 returns-then-place-self c =
-    let f = c.args.self.now in
+    let r = c.self.invariant in
     let k = c.args.place in
     let m = c.args.mask in
-    let after = view_flipped f k m c.if-place-self.true in
+    let inside = c.if-place-self.true in
+    let after = view_flipped _ _ _ r k m inside ∙ ap (λ f. flipped f k m) c.self.view_is in
     record {
       after = after;
       breaks = λ good in' some.
           subst Broken (sym after)
-          (flip_breaks (view f) f.groups (grouped f) k m in'
-          (subst (λ b. b < 256) (view_byte f k c.if-place-self.true) (search rules)) some (search rules) good);
+          (flip_breaks c.args.self.now c.self.inside.groups (subst (λ f. Grouped f c.self.inside.groups) c.self.view_is r.frame) k m in'
+          (subst (λ b. b < 256) (view_byte _ _ _ r k inside ∙ ap (λ f. byte_at f k) c.self.view_is) (search rules)) some (search rules) good);
     }
 
 pub returns-else-place-self : goal.returns-else-place-self
 returns-else-place-self c =
-    let f = c.args.self.now in
+    let r = c.self.invariant in
+    let past = subst (λ f. f ≡ flipped f c.args.place c.args.mask) c.self.view_is (view_past _ _ _ r c.args.place c.args.mask c.if-place-self.false) in
     record {
-      after = view_past f c.args.place c.args.mask c.if-place-self.false;
-      breaks = λ good in' some. absurd (omega (arith, (grouped f).bytes_long, c.if-place-self.false));
+      after = past;
+      breaks = λ good in' some. absurd (omega (arith, (subst (λ f. Grouped f c.self.inside.groups) c.self.view_is r.frame).bytes_long, c.if-place-self.false));
     }

@@ -1,4 +1,4 @@
-use Rattle.std.proofs.Common.{arith}
+use Rattle.std.proofs.Common.{arith, ap, ◌∙◌, is_ok}
 use Rattle.std.proofs.lemmas.Bool.Decides.{nat_tests}
 use Rattle.frame.specs.Form.{link_allows}
 use Rattle.frame.proofs.frame.link.allows_byte.Goals as goal
@@ -7,13 +7,9 @@ pub returns-in-8 : goal.returns-in-8
 unfolding link_allows
 returns-in-8 c = grind (arith, nat_tests)
 
-pub returns-then-byte-eq0 : goal.returns-then-byte-eq0
+pub returns-in-9 : goal.returns-in-9
 unfolding link_allows
-returns-then-byte-eq0 c = grind (arith, nat_tests)
-
-pub returns-else-byte-eq0 : goal.returns-else-byte-eq0
-unfolding link_allows
-returns-else-byte-eq0 c = grind (arith, nat_tests)
+returns-in-9 c = c.is_ok.ensures.value ∙ ap is_ok c.try_from.ensures ∙ (let z = c.in-9.is in grind (arith, nat_tests))
 
 pub returns-in-10 : goal.returns-in-10
 unfolding link_allows
