@@ -6,7 +6,7 @@ ghost use Rattle.figures.specs.Figures.{figures, Hold};
 
 mod figure;
 
-use anyhow::anyhow;
+use anyhow::ensure;
 use carrier::carrier::Carrier;
 use carrier::harming::Harming;
 use carrier::straight::Straight;
@@ -14,6 +14,7 @@ use crc::link::link_check;
 use figure::Figure;
 use frame::frame::Frame;
 use frame::packet::Packet;
+use link::counts::Counts;
 use link::side::Side;
 use link::worked::worked_counts;
 use terms::reply::{Reply, ReplyKind};
@@ -27,29 +28,28 @@ pub fn figures_proved() -> usize
 }
 
 // The check of unit 1 in a sealed packet of one group that is zero but for that unit's last byte.
-fn unit_1(last: u8) -> u64 {
+fn unit_1(last: u8) -> Option<u64> {
     let mut bytes = [0; 128];
     bytes[31] = last;
-    match Packet::new(&bytes) {
-        Ok(packet) => number(Frame::seal(&packet, 0).bytes(), 115, 1),
-        Err(_) => 0,
-    }
+    let packet = Packet::new(&bytes).ok()?;
+    let frame = Frame::seal(&packet, 0);
+    frame.bytes().get(115).map(|check| u64::from(*check))
 }
 
-// So many bytes from a place on, as one number, the first byte highest.
-fn number(bytes: &[u8], place: usize, count: usize) -> u64 {
-    let mut value: u64 = 0;
-    for byte in bytes.iter().skip(place).take(count) {
-        value = value.wrapping_mul(256) | u64::from(*byte);
-    }
-    value
-}
-
-fn run_figures() -> [Figure; 5] {
+// Places 8 to 15 of ACK 0 as one number, the first byte highest.
+fn ack_0() -> u64 {
     let ack = Frame::reply(Reply {
         kind: ReplyKind::Ack,
         id: 0,
     });
+    ack.bytes()
+        .iter()
+        .skip(8)
+        .take(8)
+        .fold(0, |value, byte| value << 8 | u64::from(*byte))
+}
+
+fn run_figures() -> [Figure; 5] {
     [
         Figure {
             what: "place 115, place 31 being 0x01",
@@ -69,23 +69,24 @@ fn run_figures() -> [Figure; 5] {
         Figure {
             what: "places 8 to 15 of ACK 0",
             expected: 0xA500_0000_0000_AF18,
-            found: number(ack.bytes(), 8, 8),
+            found: Some(ack_0()),
         },
         Figure {
             what: "CRC-16/UMTS of 123456789",
             expected: 0xFEE8,
-            found: u64::from(link_check(b"123456789")),
+            found: Some(u64::from(link_check(b"123456789"))),
         },
     ]
 }
 
 // The counts of the worked run, for a harmed way there and a straight way back.
 fn show_worked_run(rt: &HostRuntime) -> anyhow::Result<()> {
-    let counts = worked_counts::<Harming<Straight>, Straight>(Side::A);
-    let taken = counts.taken;
-    let handed_up = counts.handed_up;
-    let released = counts.released;
-    let held = counts.held;
+    let Counts {
+        taken,
+        handed_up,
+        released,
+        held,
+    } = worked_counts::<Harming<Straight>, Straight>(Side::A);
     println!(rt;
         "worked run: {taken} taken, {handed_up} handed up, {released} released, {held} held"
     )?;
@@ -96,13 +97,13 @@ fn main(rt: HostRuntime) -> anyhow::Result<()> {
     let proved = figures_proved();
     println!(rt; "{proved} figures of the rules are proved")?;
     show_worked_run(&rt)?;
-    let mut wrong = false;
-    for figure in &run_figures() {
+    let figures = run_figures();
+    for figure in &figures {
         println!(rt; "{figure}")?;
-        wrong = wrong || figure.found != figure.expected;
     }
-    if wrong {
-        return Err(anyhow!("a figure is not what was expected"));
-    }
+    ensure!(
+        figures.iter().all(|figure| figure.is_right()),
+        "a figure is not what was expected"
+    );
     Ok(())
 }
