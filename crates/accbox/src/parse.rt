@@ -8,37 +8,29 @@ use terms::reply::{Reply, ReplyKind};
 
 const LARGEST_BUFFER: usize = 1048576;
 
-fn load(heap: Global, words: &mut Words) -> Result<Load, Why> {
+fn load(words: &mut Words) -> Result<Load, Why> {
     let part = Part::Length;
+    let wanted = Wanted::Length;
     let word = words.word(part)?;
     if word == "hex" {
-        return Ok(Load::Bytes(words.bytes(heap, Part::PacketBytes)?));
+        return Ok(Load::Bytes(words.bytes(Part::PacketBytes)?));
     }
-    let Some(size) = decimal(word) else {
-        return Err(Why::Wrong {
-            part,
-            wanted: Wanted::Length,
-        });
-    };
     Ok(Load::Filled {
-        size,
+        size: decimal(word).ok_or(Why::Wrong { part, wanted })?,
         fill: words.byte(Part::Fill)?,
     })
 }
 
 fn reply_kind(words: &mut Words) -> Result<ReplyKind, Why> {
-    let part = Part::Kind;
-    match words.word(part)? {
-        "ack" => Ok(ReplyKind::Ack),
-        "nak" => Ok(ReplyKind::Nak),
-        _ => Err(Why::Wrong {
-            part,
-            wanted: Wanted::ReplyKind,
-        }),
-    }
+    words.read(Part::Kind, Wanted::ReplyKind, |word| match word {
+        "ack" => Some(ReplyKind::Ack),
+        "nak" => Some(ReplyKind::Nak),
+        _ => None,
+    })
 }
 
 fn carrier_kind(words: &mut Words) -> Result<CarrierKind, Why> {
+    // What lacks is the kind, and what is wrong the carrier.
     match words.word(Part::Kind)? {
         "straight" => Ok(CarrierKind::Straight),
         _ => Err(Why::Wrong {
@@ -64,10 +56,10 @@ fn harm(words: &mut Words) -> Result<Harm, Why> {
     }
 }
 
-fn seal(heap: Global, words: &mut Words) -> Result<Command, Why> {
+fn seal(words: &mut Words) -> Result<Command, Why> {
     Ok(Command::Seal {
         id: words.id()?,
-        load: load(heap, words)?,
+        load: load(words)?,
     })
 }
 
@@ -78,10 +70,10 @@ fn reply(words: &mut Words) -> Result<Command, Why> {
     }))
 }
 
-fn raw(heap: Global, words: &mut Words) -> Result<Command, Why> {
+fn raw(words: &mut Words) -> Result<Command, Why> {
     Ok(Command::Raw {
-        bytes: words.bytes(heap, Part::FrameBytes)?,
-        marks: words.marks(heap, Part::Marks)?,
+        bytes: words.bytes(Part::FrameBytes)?,
+        marks: words.marks(Part::Marks)?,
     })
 }
 
@@ -106,11 +98,11 @@ fn unpack(words: &mut Words) -> Result<Command, Why> {
 }
 
 // The command that the first word names.
-fn named(heap: Global, words: &mut Words) -> Result<Command, Why> {
+fn named(words: &mut Words) -> Result<Command, Why> {
     match words.command() {
-        "seal" => seal(heap, words),
+        "seal" => seal(words),
         "reply" => reply(words),
-        "raw" => raw(heap, words),
+        "raw" => raw(words),
         "flip" => flip(words),
         "mark" => mark(words),
         "read" => Ok(Command::Read),
@@ -125,19 +117,18 @@ fn named(heap: Global, words: &mut Words) -> Result<Command, Why> {
 }
 
 // The same, where no word is left behind it.
-fn whole(heap: Global, words: &mut Words) -> Result<Command, Why> {
-    let command = named(heap, words)?;
+fn whole(words: &mut Words) -> Result<Command, Why> {
+    let command = named(words)?;
     words.end()?;
     Ok(command)
 }
 
 // The command of a line; none if the line is blank.
 pub(crate) fn command<'a>(heap: Global, line: &'a str) -> Result<Option<Command>, Misread<'a>> {
-    let Some(mut words) = Words::of_line(line) else {
+    let Some(mut words) = Words::of_line(heap, line) else {
         return Ok(None);
     };
-    match whole(heap, &mut words) {
-        Ok(command) => Ok(Some(command)),
-        Err(why) => Err(words.misread(why)),
-    }
+    whole(&mut words)
+        .map(Some)
+        .map_err(|why| words.misread(why))
 }

@@ -63,22 +63,22 @@ fn answer<'a>(
     heap: Global,
     line: &'a str,
 ) -> Result<Option<Answer>, LineFault<'a>> {
-    match parse::command(heap, line)? {
-        Some(command) => Ok(Some(session.run(heap, command)?)),
-        None => Ok(None),
-    }
+    let Some(command) = parse::command(heap, line)? else {
+        return Ok(None);
+    };
+    Ok(Some(session.run(heap, command)?))
 }
 
 pub(crate) fn run<'a>(rt: &HostRuntime, text: &'a str) -> Result<(), Stop<'a>> {
     let mut session = Session::new();
     for (index, line) in text.split('\n').enumerate() {
-        match answer(&mut session, rt.alloc(), line) {
-            Ok(Some(answer)) => rt.println(answer)?,
-            Ok(None) => {}
-            Err(fault) => return Err(Stop::Line {
-                number: index.saturating_add(1),
-                fault,
-            }),
+        let number = index.saturating_add(1);
+        let answer = answer(&mut session, rt.alloc(), line).map_err(|fault| Stop::Line {
+            number,
+            fault,
+        })?;
+        if let Some(answer) = answer {
+            rt.println(answer)?;
         }
     }
     Ok(())

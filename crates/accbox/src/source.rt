@@ -28,10 +28,7 @@ impl fmt::Display for Unread {
 
 // The file that the arguments name, if any.
 fn named(rt: &HostRuntime) -> Result<Option<String>, Unread> {
-    let mut args = match env::args(rt) {
-        Ok(args) => args.skip(1),
-        Err(error) => return Err(Unread::Arguments(error)),
-    };
+    let mut args = env::args(rt).map_err(Unread::Arguments)?.skip(1);
     let name = args.next();
     match args.next() {
         Some(_) => Err(Unread::TooMany),
@@ -41,13 +38,10 @@ fn named(rt: &HostRuntime) -> Result<Option<String>, Unread> {
 
 pub(crate) fn text(rt: &HostRuntime) -> Result<String, Unread> {
     match named(rt)? {
-        Some(name) => match fs::read_to_string(rt, name.as_str()) {
-            Ok(text) => Ok(text),
-            Err(error) => Err(Unread::File { name, error }),
-        },
-        None => match io::read_to_string(rt.alloc(), rt.stdin()) {
-            Ok(text) => Ok(text),
-            Err(error) => Err(Unread::Input(error)),
-        },
+        Some(name) => fs::read_to_string(rt, name.as_str()).map_err(|error| Unread::File {
+            name,
+            error,
+        }),
+        None => io::read_to_string(rt.alloc(), rt.stdin()).map_err(Unread::Input),
     }
 }

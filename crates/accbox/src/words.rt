@@ -1,5 +1,6 @@
 // The words of a line, read one after the other.
-ghost use Rattle.std.specs.Prelude.{◌≤◌, IfOk};
+ghost use Rattle.std.specs.Prelude.{◌≤◌, ℕ, List, IfOk};
+ghost use Rattle.std.specs.Fn.{FnOnceReturnsAt};
 
 use crate::misread::{Misread, Part, Wanted, Why};
 use crate::{hex, marks};
@@ -10,6 +11,7 @@ const BLANKS: [char; 2] = [' ', '\t'];
 
 #[derive(Drop)]
 pub(crate) struct Words<'a> {
+    heap: Global,
     command: &'a str,
     // the word that was read last
     word: &'a str,
@@ -19,10 +21,7 @@ pub(crate) struct Words<'a> {
 // The line without its comment and without a final carriage return.
 fn uncommented(line: &str) -> &str {
     let line = line.strip_suffix('\r').unwrap_or(line);
-    match line.split_once('#') {
-        Some((before, _)) => before,
-        None => line,
-    }
+    line.split_once('#').map_or(line, |(before, _)| before)
 }
 
 // The first word of a text, and what follows it.
@@ -44,9 +43,10 @@ pub(crate) fn decimal(word: &str) -> Option<usize> {
 
 impl<'a> Words<'a> {
     // The words of a line, of which the first is its command; none if the line is blank.
-    pub(crate) fn of_line(line: &'a str) -> Option<Words<'a>> {
+    pub(crate) fn of_line(heap: Global, line: &'a str) -> Option<Words<'a>> {
         let (command, rest) = first_word(uncommented(line))?;
         Some(Words {
+            heap,
             command,
             word: command,
             rest,
@@ -77,16 +77,25 @@ impl<'a> Words<'a> {
         self.next().ok_or(Why::Missing(part))
     }
 
+    // What the next word says; it is wrong where `read` gives none.
+    pub(crate) fn read<T, F: FnOnce(&str) -> Option<T>>(
+        &mut self,
+        part: Part,
+        wanted: Wanted,
+        read: F,
+    ) -> Result<T, Why>
+        requires { F.IsAlwaysCallable read }
+        ensures { IfOk result (λ x. (word : List ℕ) × FnOnceReturnsAt F.FnOnce read word (Some x)) }
+    {
+        read(self.word(part)?).ok_or(Why::Wrong { part, wanted })
+    }
+
     pub(crate) fn number(&mut self, part: Part, most: usize) -> Result<usize, Why>
         ensures { IfOk result (λ n. n ≤ most) }
     {
-        match decimal(self.word(part)?) {
-            Some(number) if number <= most => Ok(number),
-            _ => Err(Why::Wrong {
-                part,
-                wanted: Wanted::Number { most },
-            }),
-        }
+        self.read(part, Wanted::Number { most }, |word| {
+            decimal(word).filter(|number| *number <= most)
+        })
     }
 
     pub(crate) fn id(&mut self) -> Result<u8, Why> {
@@ -94,31 +103,25 @@ impl<'a> Words<'a> {
     }
 
     pub(crate) fn byte(&mut self, part: Part) -> Result<u8, Why> {
-        hex::read_byte(self.word(part)?).ok_or(Why::Wrong {
-            part,
-            wanted: Wanted::Byte,
-        })
+        self.read(part, Wanted::Byte, hex::read_byte)
     }
 
-    pub(crate) fn bytes(&mut self, heap: Global, part: Part) -> Result<Vec<u8>, Why> {
-        hex::read_bytes(heap, self.word(part)?)?.ok_or(Why::Wrong {
-            part,
-            wanted: Wanted::Bytes,
-        })
+    pub(crate) fn bytes(&mut self, part: Part) -> Result<Vec<u8>, Why> {
+        let heap = self.heap;
+        Ok(self.read(part, Wanted::Bytes, |word| {
+            hex::read_bytes(heap, word).transpose()
+        })??)
     }
 
     pub(crate) fn mark(&mut self, part: Part) -> Result<Mark, Why> {
-        marks::read_mark(self.word(part)?).ok_or(Why::Wrong {
-            part,
-            wanted: Wanted::Number { most: 3 },
-        })
+        self.read(part, Wanted::Number { most: 3 }, marks::read_mark)
     }
 
-    pub(crate) fn marks(&mut self, heap: Global, part: Part) -> Result<Vec<Mark>, Why> {
-        marks::read_marks(heap, self.word(part)?)?.ok_or(Why::Wrong {
-            part,
-            wanted: Wanted::Marks,
-        })
+    pub(crate) fn marks(&mut self, part: Part) -> Result<Vec<Mark>, Why> {
+        let heap = self.heap;
+        Ok(self.read(part, Wanted::Marks, |word| {
+            marks::read_marks(heap, word).transpose()
+        })??)
     }
 
     // Sees that no word is left.
