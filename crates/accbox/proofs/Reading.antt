@@ -1,25 +1,39 @@
--- What was read so far, and what the rest of the word reads as.
+-- What was read so far, and what the parts that are left read as.
 use Rattle.std.proofs.Common.{◌≡◌, List, [], ◌∷◌, ◌++◌, Some, None, Option, sym, refl, ap, ◌∙◌, append_assoc, append-nil}
+use Rattle.std.specs.Iterator.{AlwaysYields}
 use Rattle.std.specs.Option.{option_map}
-use Rattle.accbox.specs.Read.{with_first}
+use Rattle.accbox.specs.Read.{with_first, all_read}
 
 module _ {X : Type 0} where
   abbrev pub after : List X → Option (List X) → Option (List X)
-  after read rest = option_map (λ xs. read ++ xs) rest
+  after done rest = option_map (λ xs. done ++ xs) rest
 
   nothing_before : (rest : Option (List X)) → rest ≡ after [] rest
   nothing_before None = refl
   nothing_before (Some xs) = refl
 
-  pub none_yet : (read : List X) (word rest : Option (List X)) → read ≡ [] → rest ≡ word → word ≡ after read rest
-  none_yet read word rest none whole = rw (none, whole) (nothing_before word)
+  moved : (done : List X) (x : X) (rest : Option (List X)) → after done (with_first (Some x) rest) ≡ after (done ++ x ∷ []) rest
+  moved done x None = refl
+  moved done x (Some xs) = ap Some (sym (append_assoc done (x ∷ []) xs))
 
-  moved : (read : List X) (x : X) (rest : Option (List X)) → after read (with_first (Some x) rest) ≡ after (read ++ x ∷ []) rest
-  moved read x None = refl
-  moved read x (Some xs) = ap Some (sym (append_assoc read (x ∷ []) xs))
+module _ {S X : Type 0} (steps : S → Option (Option X) → S → Type 0) where
+  -- the parts that s still gives, behind what is done, are the parts
+  abbrev pub Left : S → List X → List (Option X) → Type 0
+  Left s done parts = (rest : List (Option X)) × AlwaysYields steps {B = Option X} (λ x. x) s rest × (all_read parts ≡ after done (all_read rest))
 
-  pub one_more : (read more : List X) (x : X) (word rest : Option (List X)) → more ≡ read ++ x ∷ [] → word ≡ with_first (Some x) rest → after read word ≡ after more rest
-  one_more read more x word rest pushed first = rw (pushed, first) (moved read x rest)
+  pub left_whole : (s : S) (done : List X) (parts : List (Option X)) → done ≡ [] → AlwaysYields steps {B = Option X} (λ x. x) s parts → Left s done parts
+  left_whole s done parts none gives = (parts, gives, rw none (nothing_before (all_read parts)))
 
-  pub no_more : (read : List X) (word rest : Option (List X)) → rest ≡ Some [] → word ≡ after read rest → Some read ≡ word
-  no_more read word rest none is = sym (rw none at is ∙ ap Some (append-nil read))
+  pub left_more : (s t : S) (done more : List X) (x : X) (parts : List (Option X)) → steps s (Some (Some x)) t → more ≡ done ++ x ∷ [] → Left s done parts → Left t more parts
+  left_more s t done more x parts step pushed ([], gives, is) = absurd (gives (Some x) t step)
+  left_more s t done more x parts step pushed (y ∷ ys, gives, is) =
+      let h = gives.1 (Some x) t step in
+      (ys, h.1, is ∙ rw (← h.0, pushed) (moved done x (all_read ys)))
+
+  pub left_none : (s t : S) (done : List X) (parts : List (Option X)) → steps s (Some None) t → Left s done parts → None ≡ all_read parts
+  left_none s t done parts step ([], gives, is) = absurd (gives None t step)
+  left_none s t done parts step (y ∷ ys, gives, is) = sym (is ∙ rw (← (gives.1 None t step).0) refl)
+
+  pub left_end : (s t : S) (done : List X) (parts : List (Option X)) → steps s None t → Left s done parts → Some done ≡ all_read parts
+  left_end s t done parts step ([], gives, is) = sym (is ∙ ap Some (append-nil done))
+  left_end s t done parts step (y ∷ ys, gives, is) = absurd (gives.0 t step)

@@ -5,6 +5,7 @@ mod hex;
 mod marks;
 mod misread;
 mod parse;
+mod read;
 mod script;
 mod source;
 mod words;

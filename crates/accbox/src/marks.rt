@@ -3,6 +3,7 @@ ghost use Rattle.std.specs.Prelude.{◌≡◌, IfOk, vec_items};
 ghost use Rattle.std.specs.Option.{option_map};
 ghost use Rattle.accbox.specs.Marks.{digit_mark, one_mark, all_marks};
 
+use crate::read;
 use std::alloc::{AllocError, Global};
 use terms::mark::Mark;
 
@@ -24,12 +25,5 @@ pub(crate) fn read_mark(word: &str) -> Option<Mark>
 pub(crate) fn read_marks(heap: Global, word: &str) -> Result<Option<Vec<Mark>>, AllocError>
     ensures { IfOk result (λ o. option_map vec_items o ≡ all_marks word.now) }
 {
-    let mut marks = Vec::with_capacity(heap, word.len())?;
-    for letter in word.bytes() {
-        let Some(mark) = digit(letter) else {
-            return Ok(None);
-        };
-        marks.push(mark)?;
-    }
-    Ok(Some(marks))
+    read::all(heap, word.bytes().map(digit))
 }

@@ -1,23 +1,42 @@
-use Rattle.std.proofs.Common.{◌≡◌, [], ◌∷◌, ◌++◌, vec_items, ap, ◌∙◌, rules}
-use Rattle.std.specs.Slice.Iter.{chunks_rest}
-use Rattle.accbox.specs.Hex.{hex_bytes}
-use Rattle.accbox.proofs.Pairs.{first_pair}
-use Rattle.accbox.proofs.Reading.{none_yet, one_more}
+use Rattle.std.proofs.Common.{◌≡◌, ℕ, min, List, [], ◌∷◌, ◌++◌, map, length, ◌<◌, refl, ap, ◌∙◌, arith, rules, tests}
+use Rattle.std.specs.Slice.Iter.{chunks_rest, chunks_size, chunks_steps}
+use Rattle.std.proofs.lemmas.Iterator.{YieldsList-from_map}
+use Rattle.std.proofs.lemmas.Iterator.Consumers.{YieldsList-at}
+use Rattle.std.proofs.lemmas.Iterator.Splits.{YieldsList-from_shown_while}
+use Rattle.accbox.specs.Hex.{hex_byte, hex_bytes}
+use Rattle.accbox.specs.Read.{with_first, all_read}
 use Rattle.accbox.proofs.hex.read_bytes.Goals as goal
 
-pub loop-digits-init : goal.loop-digits-init
-loop-digits-init c =
-    let none : vec_items c.in_ok-bytes.bytes ≡ [] = search rules in
-    let whole : chunks_rest c.into_iter-digits-iterator.result ≡ c.args.word.now = search rules in
-    (search rules, search rules, none_yet _ _ _ none (ap hex_bytes whole))
+-- the pairs of letters, the last of which may be a single one
+pairs : List ℕ → List (List ℕ)
+pairs [] = []
+pairs (a ∷ []) = (a ∷ []) ∷ []
+pairs (a ∷ b ∷ rest) = (a ∷ b ∷ []) ∷ pairs rest
 
-pub loop-digits-preserved : goal.loop-digits-preserved
-loop-digits-preserved c =
-    let byte = c.in-Some-pair.byte in
-    let read = vec_items c.loop-digits.bytes in
-    let pushed : vec_items c.push.new.self ≡ read ++ byte ∷ [] = search rules in
-    let all = chunks_rest c.loop-digits.digits-iterator in
-    let left = chunks_rest c.next.new.self in
-    let cut = c.in-Some.ensures.steps.1 in
-    let first = first_pair all c.in-Some.digits.now left byte cut.0 (rw c.loop-digits.invariant.1 at cut.1) cut.2 c.in-Some-pair.ensures in
-    (search rules, search rules, c.loop-digits.invariant.2 ∙ one_more read (vec_items c.push.new.self) byte (hex_bytes all) (hex_bytes left) pushed first)
+each : (word : List ℕ) → hex_bytes word ≡ all_read (map hex_byte (pairs word))
+unfolding pairs
+each [] = refl
+each (a ∷ []) = refl
+each (a ∷ b ∷ rest) = ap (with_first (hex_byte (a ∷ b ∷ []))) (each rest)
+
+first : (word pair rest : List ℕ) → word ≡ pair ++ rest → length pair ≡ min 2 (length word) → 0 < length word → pairs word ≡ pair ∷ pairs rest
+unfolding pairs
+first word [] rest is e h = absurd (omega (arith, ap length is))
+first word (a ∷ []) [] is e h = rw is refl
+first word (a ∷ []) (b ∷ rest) is e h = absurd (omega (arith, ap length is))
+first word (a ∷ b ∷ []) rest is e h = rw is refl
+first word (a ∷ b ∷ c ∷ more) rest is e h = absurd (omega (arith, ap length is))
+
+none : (word : List ℕ) → length word ≡ 0 → length (pairs word) ≡ 0
+unfolding pairs
+none [] e = refl
+none (a ∷ rest) e = absurd (omega arith)
+
+pub returns : goal.returns
+returns c =
+    let chunks = YieldsList-from_shown_while chunks_steps (λ x. x.now) (λ s. pairs (chunks_rest s)) (λ s. chunks_size s ≡ 2)
+    (λ s t two step. none _ step.1.0)
+    (λ s x t two step. (step.0 ∙ two, first _ _ _ step.1.0 (rw two at step.1.1) step.1.2))
+    c.chunks.result c.chunks.ensures.size in
+    let word : chunks_rest c.chunks.result ≡ c.args.word.now = search rules in
+    rw (each, ← word) (c.all.ensures _ (YieldsList-from_map _ hex_byte (YieldsList-at c.map.ensures.source chunks) c.map.ensures.closure (λ x r q k. search (rules, tests))).runs)

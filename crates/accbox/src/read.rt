@@ -1,0 +1,26 @@
+// Reading a word part by part.
+ghost use Rattle.std.specs.Prelude.{◌≡◌, List, Option, IfOk, vec_items};
+ghost use Rattle.std.specs.Iterator.{AlwaysYields, IsFinite};
+ghost use Rattle.std.specs.Option.{option_map};
+ghost use Rattle.accbox.specs.Read.{all_read};
+
+use std::alloc::{AllocError, Global};
+
+// What the parts read as; none if one of them could not be read.
+pub(crate) fn all<T: Drop, I: Iterator<Item = Option<T>>>(
+    heap: Global,
+    parts: I,
+) -> Result<Option<Vec<T>>, AllocError>
+    requires can { I.can_next parts }
+    requires finite { IsFinite (I.remaining parts) }
+    ensures { (read : List (Option T)) → AlwaysYields I.next_gives (λ x. x) parts read → IfOk result (λ o. option_map vec_items o ≡ all_read read) }
+{
+    let mut all = Vec::new(heap);
+    for part in parts {
+        let Some(part) = part else {
+            return Ok(None);
+        };
+        all.push(part)?;
+    }
+    Ok(Some(all))
+}
