@@ -8,10 +8,6 @@ module _ {X : Type 0} where
   abbrev pub after : List X → Option (List X) → Option (List X)
   after done rest = option_map (λ xs. done ++ xs) rest
 
-  nothing_before : (rest : Option (List X)) → rest ≡ after [] rest
-  nothing_before None = refl
-  nothing_before (Some xs) = refl
-
   moved : (done : List X) (x : X) (rest : Option (List X)) → after done (with_first (Some x) rest) ≡ after (done ++ x ∷ []) rest
   moved done x None = refl
   moved done x (Some xs) = ap Some (sym (append_assoc done (x ∷ []) xs))
@@ -20,9 +16,6 @@ module _ {S X : Type 0} (steps : S → Option (Option X) → S → Type 0) where
   -- the parts that s still gives, behind what is done, are the parts
   abbrev pub Left : S → List X → List (Option X) → Type 0
   Left s done parts = (rest : List (Option X)) × AlwaysYields steps {B = Option X} (λ x. x) s rest × (all_read parts ≡ after done (all_read rest))
-
-  pub left_whole : (s : S) (done : List X) (parts : List (Option X)) → done ≡ [] → AlwaysYields steps {B = Option X} (λ x. x) s parts → Left s done parts
-  left_whole s done parts none gives = (parts, gives, rw none (nothing_before (all_read parts)))
 
   pub left_more : (s t : S) (done more : List X) (x : X) (parts : List (Option X)) → steps s (Some (Some x)) t → more ≡ done ++ x ∷ [] → Left s done parts → Left t more parts
   left_more s t done more x parts step pushed ([], gives, is) = absurd (gives (Some x) t step)

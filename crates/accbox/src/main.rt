@@ -21,6 +21,7 @@ fn tell<D: Display + Drop>(rt: &HostRuntime, reason: D) -> ExitCode {
 }
 
 fn main(rt: HostRuntime) -> ExitCode {
+    // What stops the script borrows from the text, so no one result can carry both reasons out.
     let text = match source::text(&rt) {
         Ok(text) => text,
         Err(reason) => return tell(&rt, reason),

@@ -97,9 +97,8 @@ impl fmt::Display for Wanted {
 
 impl fmt::Display for Misread<'_> {
     fn fmt<W: fmt::Write>(&self, f: &mut fmt::Formatter<W>) -> fmt::Result {
-        let command = self.command;
-        let word = self.word;
-        match self.why {
+        let Misread { command, word, why } = self;
+        match why {
             Why::NoCommand => write!(f, "{command:?} is no command"),
             Why::Missing(part) => write!(f, "{command} lacks its {part}"),
             Why::Wrong { part, wanted } => write!(f, "{part} must be {wanted}, not {word:?}"),

@@ -30,7 +30,7 @@ fn reply_kind(words: &mut Words) -> Result<ReplyKind, Why> {
 }
 
 fn carrier_kind(words: &mut Words) -> Result<CarrierKind, Why> {
-    // What lacks is the kind, and what is wrong the carrier.
+    // Not by `read`: the kind is what is missing, and the carrier what is wrong.
     match words.word(Part::Kind)? {
         "straight" => Ok(CarrierKind::Straight),
         _ => Err(Why::Wrong {
@@ -42,6 +42,7 @@ fn carrier_kind(words: &mut Words) -> Result<CarrierKind, Why> {
 
 fn harm(words: &mut Words) -> Result<Harm, Why> {
     let part = Part::Harm;
+    // Not by `read`: more words follow the one that is matched.
     match words.word(part)? {
         "pass" => Ok(Harm::Pass),
         "drop" => Ok(Harm::Drop),
@@ -108,8 +109,8 @@ fn named(words: &mut Words) -> Result<Command, Why> {
         "read" => Ok(Command::Read),
         "unpack" => unpack(words),
         "show" => Ok(Command::Show),
-        "carrier" => Ok(Command::Carrier(carrier_kind(words)?)),
-        "plan" => Ok(Command::Plan(harm(words)?)),
+        "carrier" => carrier_kind(words).map(Command::Carrier),
+        "plan" => harm(words).map(Command::Plan),
         "put" => Ok(Command::Put),
         "take" => Ok(Command::Take),
         _ => Err(Why::NoCommand),

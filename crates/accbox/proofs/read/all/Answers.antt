@@ -1,9 +1,6 @@
 use Rattle.std.proofs.Common.{rules}
-use Rattle.accbox.proofs.Reading.{left_whole, left_more, left_none, left_end}
+use Rattle.accbox.proofs.Reading.{left_more, left_none, left_end}
 use Rattle.accbox.proofs.read.all.Goals as goal
-
-pub loop-part-init : goal.loop-part-init
-loop-part-init g c = (search rules, search rules, λ parts gives. left_whole g.I.Iterator.next_gives _ _ parts c.new-all.ensures.items (rw c.into_iter-part-iterator.ensures.into_iter_gives gives))
 
 pub returns-in_default : goal.returns-in_default
 returns-in_default g c = λ parts gives. left_none g.I.Iterator.next_gives c.loop-part.part-iterator c.next.new.self _ parts (rw c.in_default.is at c.in-Some.ensures.steps) (c.loop-part.invariant.2 parts gives)
