@@ -100,6 +100,7 @@ fn unpack(words: &mut Words) -> Result<Command, Why> {
 
 // The command that the first word names.
 fn named(words: &mut Words) -> Result<Command, Why> {
+    // A match, not a table of closures: a word and what it reads stand side by side.
     match words.command() {
         "seal" => seal(words),
         "reply" => reply(words),

@@ -9,6 +9,7 @@ mod plan;
 use crate::harm::Harm;
 use std::collections::VecDeque;
 
+// Without a model, by which "as it was" would say less of the queue than its items.
 #[derive(Drop)]
 pub struct Harming<C> {
     inner: C,

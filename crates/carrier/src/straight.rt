@@ -7,6 +7,7 @@ mod carries;
 use frame::frame::Frame;
 use std::collections::VecDeque;
 
+// Without a model, by which "as it was" would say less of the queue than its items.
 #[derive(Drop)]
 pub struct Straight {
     queue: VecDeque<Frame>,

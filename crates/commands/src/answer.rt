@@ -1,4 +1,5 @@
 // What a command is answered by.
+use crate::characters::Characters;
 use crate::command::CarrierKind;
 use crate::hex::Hex;
 use frame::frame::Frame;
@@ -27,22 +28,6 @@ pub enum Answer {
     Refused(Refusal),
 }
 
-// One line a character: its number, its mark and its bytes.
-fn write_characters<W: fmt::Write>(frame: &Frame, f: &mut fmt::Formatter<W>) -> fmt::Result {
-    for (number, (mark, bytes)) in frame
-        .marks()
-        .iter()
-        .zip(frame.bytes().chunks(16))
-        .enumerate()
-    {
-        if number > 0 {
-            f.write_str("\n")?;
-        }
-        write!(f, "{number} {mark} {}", Hex(bytes))?;
-    }
-    Ok(())
-}
-
 impl fmt::Display for Answer {
     fn fmt<W: fmt::Write>(&self, f: &mut fmt::Formatter<W>) -> fmt::Result {
         match self {
@@ -63,7 +48,7 @@ impl fmt::Display for Answer {
                 Hex(buffer)
             ),
             Answer::NoPacket => f.write_str("not a packet"),
-            Answer::Characters(frame) => write_characters(frame, f),
+            Answer::Characters(frame) => write!(f, "{}", Characters(frame)),
             Answer::Carrier(kind) => write!(f, "carrier {kind}"),
             Answer::Planned { harms } => write!(f, "plan holds {harms}"),
             Answer::Put => f.write_str("put"),

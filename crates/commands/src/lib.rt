@@ -2,6 +2,7 @@
 #![tactic(auto)]
 
 pub mod answer;
+mod characters;
 pub mod command;
 mod hex;
 pub mod session;

@@ -13,6 +13,7 @@ use carrier::straight::Straight;
 use frame::frame::Frame;
 use std::alloc::Global;
 
+// Without a model, by which "as it was" would say less of the carrier than what waits and what is planned.
 #[derive(Drop)]
 pub struct Session {
     frame: Option<Frame>,
@@ -33,6 +34,7 @@ impl Session {
     pub fn run(&mut self, heap: Global, command: Command) -> Result<Answer, Trouble>
         ensures { Ran command self.old result self.new }
     {
+        // A match, not a table of closures: each command holds what its own step takes.
         match command {
             Command::Seal { id, load } => Ok(self.seal(id, &load)),
             Command::Reply(reply) => Ok(self.reply(reply)),

@@ -22,6 +22,7 @@ pub enum Layer {
 // A refusal as a panel shows it.
 #[derive(Clone, Copy, PartialEq, Eq, Debug)]
 pub struct Refusal {
+    // a number, since a panel shows numbers: code matches the enums below
     pub number: u8,
     pub layer: Layer,
     pub place: usize,

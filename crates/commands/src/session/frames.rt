@@ -54,6 +54,7 @@ fn unpacked(res: Result<Content, UnpackFault>, buffer: Vec<u8>) -> Answer
     }
 }
 
+// Methods of the whole session, so each says by `kept` that the carrier stays.
 impl Session {
     pub(super) fn current(&self) -> Result<Frame, Trouble>
         ensures { MatchResult result (λ f. self.now.frame ≡ Some f) (λ t. (self.now.frame ≡ None) × (t ≡ NoFrame)) }

@@ -46,6 +46,7 @@ pub(super) fn form_marks(kind: Kind, count: usize) -> [Mark; 40]
 fn allows_byte(kind: Kind, size: usize, place: usize, byte: u8) -> bool
     ensures { result ≡ allows kind size place byte }
 {
+    // A match, not a trait with a type for each form: the kind is known only once a frame is there.
     match kind {
         Kind::Protocol => protocol::allows_byte(size, place, byte),
         Kind::Link => link::allows_byte(place, byte),
