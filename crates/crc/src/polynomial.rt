@@ -22,6 +22,7 @@ pub(crate) const LINK: Polynomial = Polynomial {
 };
 
 impl Polynomial {
+    #[tactic(auto, using(std::proofs::lemmas::Nat::one_shl), unfolding(crate::specs::Check::bit_step))]
     fn bit_step(self, state: u16, bit: u16) -> u16
         ensures { result ≡ bit_step self.width self.terms state bit }
     {

@@ -12,6 +12,7 @@ pub(crate) fn is_whole(size: usize) -> bool
 }
 
 // Whether a place of a packet of so many bytes is reserved.
+#[tactic(auto, unfolding(crate::specs::Reserved::reserved))]
 pub(crate) fn is_reserved(size: usize, place: usize) -> bool
     ensures { result ≡ reserved size place }
 {

@@ -87,6 +87,7 @@ impl Frame {
             .position(|(place, byte)| !allows_byte(kind, size, place, *byte))
     }
 
+    #[tactic(auto, using(crate::proofs::Searches::sync_found))]
     pub(super) fn check_sync(&self) -> Result<(), FrameFault>
         ensures checked { result ≡ sync_checked self.now }
         ensures shape { (groups : ℕ) × Grouped self.now groups }

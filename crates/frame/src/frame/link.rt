@@ -21,6 +21,7 @@ pub(super) const LEAD: u8 = 0x5C;
 const TAG: u8 = 0xA5;
 
 // Whether a byte may stand at a place of a link frame.
+#[tactic(auto, unfolding(crate::specs::Form::link_allows))]
 pub(super) fn allows_byte(place: usize, byte: u8) -> bool
     ensures { result ≡ link_allows place byte }
 {
@@ -36,6 +37,7 @@ pub(super) fn allows_byte(place: usize, byte: u8) -> bool
     }
 }
 
+#[tactic(auto, unfolding(crate::specs::Form::reply_check))]
 fn reply_check(reply: Reply) -> u16
     ensures { result ≡ reply_check reply }
 {
@@ -43,6 +45,7 @@ fn reply_check(reply: Reply) -> u16
 }
 
 // The byte at a place of the link frame of a reply with this check.
+#[tactic(auto, unfolding(crate::specs::Form::link_byte))]
 fn link_byte(reply: Reply, check: u16, place: usize) -> u8
     requires { check ≡ reply_check reply }
     ensures { result ≡ link_byte reply place }

@@ -18,6 +18,7 @@ use terms::fault::FrameFault;
 const START: u8 = 0xFB;
 
 // Whether a byte may stand at a place of a protocol frame of so many bytes.
+#[tactic(auto, unfolding(crate::specs::Form::protocol_allows))]
 pub(super) fn allows_byte(size: usize, place: usize, byte: u8) -> bool
     ensures { result ≡ protocol_allows size place byte }
 {

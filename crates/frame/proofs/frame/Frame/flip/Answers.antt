@@ -1,12 +1,9 @@
-use Rattle.std.proofs.Common.{◌≡◌, ◌<◌, sym, ap, ◌∙◌, subst, arith, rules}
+use Rattle.std.proofs.Common.{◌<◌, sym, ap, ◌∙◌, subst, rules}
 use Rattle.frame.specs.Frame.{Grouped, byte_at, flipped}
 use Rattle.frame.specs.Reading.{Broken}
 use Rattle.frame.proofs.Flips.{flip_breaks}
-use Rattle.frame.proofs.Views.{view_byte, view_flipped, view_past, flipped_room}
+use Rattle.frame.proofs.Views.{view_byte, view_flipped}
 use Rattle.frame.proofs.frame.Frame.flip.Goals as goal
-
-pub invariant_of-self : goal.invariant_of-self
-invariant_of-self c = flipped_room _ _ _ c.self.invariant c.args.place _ c.if-place-self.true
 
 pub returns-then-place-self : goal.returns-then-place-self
 returns-then-place-self c =
@@ -21,13 +18,4 @@ returns-then-place-self c =
           subst Broken (sym after)
           (flip_breaks c.args.self.now c.self.inside.groups (subst (λ f. Grouped f c.self.inside.groups) c.self.view_is r.frame) k m in'
           (subst (λ b. b < 256) (view_byte _ _ _ r k inside ∙ ap (λ f. byte_at f k) c.self.view_is) (search rules)) some (search rules) good);
-    }
-
-pub returns-else-place-self : goal.returns-else-place-self
-returns-else-place-self c =
-    let r = c.self.invariant in
-    let past = subst (λ f. f ≡ flipped f c.args.place c.args.mask) c.self.view_is (view_past _ _ _ r c.args.place c.args.mask c.if-place-self.false) in
-    record {
-      after = past;
-      breaks = λ good in' some. absurd (omega (arith, (subst (λ f. Grouped f c.self.inside.groups) c.self.view_is r.frame).bytes_long, c.if-place-self.false));
     }
