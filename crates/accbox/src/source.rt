@@ -30,10 +30,10 @@ impl fmt::Display for Unread {
 fn named(rt: &HostRuntime) -> Result<Option<String>, Unread> {
     let mut args = env::args(rt).map_err(Unread::Arguments)?.skip(1);
     let name = args.next();
-    match args.next() {
-        Some(_) => Err(Unread::TooMany),
-        None => Ok(name),
+    if args.next().is_some() {
+        return Err(Unread::TooMany);
     }
+    Ok(name)
 }
 
 pub(crate) fn text(rt: &HostRuntime) -> Result<String, Unread> {

@@ -126,9 +126,6 @@ impl<'a> Words<'a> {
 
     // Sees that no word is left.
     pub(crate) fn end(&mut self) -> Result<(), Why> {
-        match self.next() {
-            Some(_) => Err(Why::Extra),
-            None => Ok(()),
-        }
+        self.next().map_or(Ok(()), |_| Err(Why::Extra))
     }
 }

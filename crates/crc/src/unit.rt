@@ -5,7 +5,7 @@ ghost use Rattle.crc.specs.Check.{run as run_of, OneByteShows};
 use crate::polynomial::UNIT;
 
 // Eight bits of state; each part of the unit is lent to it in turn.
-#[derive(Clone, Copy, PartialEq, Eq, Debug)]
+#[derive(Clone, Copy)]
 pub struct UnitCheck {
     state: u8,
 }

@@ -25,10 +25,10 @@ impl<C: Carrier> Carrier for Harming<C> {
         if self.inner.is_full(frame.groups()) {
             return Err(CarrierFault::Full);
         }
-        match self.next_harm().apply(frame) {
-            Some(handed) => self.inner.put(&handed),
-            None => Ok(()),
-        }
+        let Some(handed) = self.next_harm().apply(frame) else {
+            return Ok(());
+        };
+        self.inner.put(&handed)
     }
 
     fn take(&mut self) -> Option<Frame>

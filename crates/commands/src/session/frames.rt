@@ -32,6 +32,7 @@ fn packet(load: &Load) -> Result<Packet, PacketFault>
     }
 }
 
+// Not a `From`: a trouble also says how many there were.
 fn shape_trouble(fault: ShapeFault, bytes: usize, marks: usize) -> Trouble
     ensures { result ≡ shape_trouble fault bytes marks }
 {

@@ -72,7 +72,7 @@ fn reply_bytes(reply: Reply) -> [u8; 128]
 }
 
 // What the eight bytes of a reply say.
-#[derive(Clone, Copy, PartialEq, Eq, Debug)]
+#[derive(Clone, Copy)]
 struct Word {
     reply: Reply,
     check: u16,

@@ -2,8 +2,8 @@ use Rattle.std.proofs.Common.{sym, ap, ◌∙◌}
 use Rattle.carrier.proofs.Handing.{counted, added_here}
 use Rattle.carrier.proofs.harming.carries.HarmingCarrier.put.Goals as goal
 
-pub returns-in-Some-clause-added : goal.returns-in-Some-clause-added
-returns-in-Some-clause-added g c =
+pub returns-clause-added : goal.returns-clause-added
+returns-clause-added g c =
     let waiting = g.C.Carrier.waiting in
     let full = g.C.Carrier.full in
     let old = c.args.self.now.inner in
