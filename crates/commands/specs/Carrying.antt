@@ -46,7 +46,7 @@ plan_answer harm c = planning_answer (planning c.plan harm)
 
 -- the carrier with the harm at the end of its plan, or as it was where the plan does not take it
 abbrev pub plan_after : Harm → CarrierM → CarrierM
-plan_after harm c = record { waiting = c.waiting; plan = planned c.plan harm }
+plan_after harm c = record c { plan = planned c.plan harm }
 
 -- whether there is no room for the frame
 abbrev pub full_for : FrameM → CarrierM → Bool
@@ -86,7 +86,7 @@ take_answer c = taking_answer c.waiting
 
 -- the carrier without the oldest frame that waits
 abbrev pub take_after : CarrierM → CarrierM
-take_after c = record { waiting = drop 1 c.waiting; plan = c.plan }
+take_after c = record c { waiting = drop 1 c.waiting }
 
 -- the oldest of the frames, or the one that was there if there is none
 abbrev pub oldest_or : List FrameM → Option FrameM → Option FrameM

@@ -36,8 +36,8 @@ mark_at f c = mark_number (slice_index_or f.marks c Zero)
 
 -- the frame with one byte xored by a mask; a place outside the frame leaves it as it is
 abbrev pub flipped : FrameM → ℕ → ℕ → FrameM
-flipped f k m = record { bytes = slice_set f.bytes k (bit_xor (byte_at f k) m); marks = f.marks }
+flipped f k m = record f { bytes = slice_set f.bytes k (bit_xor (byte_at f k) m) }
 
 -- the frame with one mark put in place of another; a character outside the frame leaves it as it is
 abbrev pub marked : FrameM → ℕ → Mark → FrameM
-marked f c m = record { bytes = f.bytes; marks = slice_set f.marks c m }
+marked f c m = record f { marks = slice_set f.marks c m }

@@ -30,51 +30,19 @@ distance e a = (a + 257 - oldest e) % 256
 
 -- the packet p is held under the next ID
 abbrev pub hold : List ℕ → EndM → EndM
-hold p e = record {
-  next = (e.next + 1) % 256;
-  held = e.held ++ (p ∷ []);
-  sent = e.sent;
-  cursor = e.cursor;
-  expected = e.expected;
-  flag = e.flag;
-  waiting = e.waiting;
-}
+hold p e = record e { next = (e.next + 1) % 256; held = e.held ++ (p ∷ []) }
 
 -- the held packets are dispatched again from the oldest on
 abbrev pub rewind : EndM → EndM
-rewind e = record {
-  next = e.next;
-  held = e.held;
-  sent = e.sent;
-  cursor = 0;
-  expected = e.expected;
-  flag = e.flag;
-  waiting = e.waiting;
-}
+rewind e = record e { cursor = 0 }
 
 -- the held packet at the cursor was dispatched
 abbrev pub advance : EndM → EndM
-advance e = record {
-  next = e.next;
-  held = e.held;
-  sent = max e.sent (e.cursor + 1);
-  cursor = e.cursor + 1;
-  expected = e.expected;
-  flag = e.flag;
-  waiting = e.waiting;
-}
+advance e = record e { sent = max e.sent (e.cursor + 1); cursor = e.cursor + 1 }
 
 -- the waiting reply was dispatched
 abbrev pub clear_reply : EndM → EndM
-clear_reply e = record {
-  next = e.next;
-  held = e.held;
-  sent = e.sent;
-  cursor = e.cursor;
-  expected = e.expected;
-  flag = e.flag;
-  waiting = None;
-}
+clear_reply e = record e { waiting = None }
 
 abbrev pub ack : ℕ → Reply
 ack id = record { kind = Ack; id = id }
@@ -84,39 +52,15 @@ nak id = record { kind = Nak; id = id }
 
 -- the expected packet was handed up: the flag goes down, and an ACK with its ID becomes the waiting reply
 abbrev pub accept : EndM → EndM
-accept e = record {
-  next = e.next;
-  held = e.held;
-  sent = e.sent;
-  cursor = e.cursor;
-  expected = (e.expected + 1) % 256;
-  flag = false;
-  waiting = Some (ack e.expected);
-}
+accept e = record e { expected = (e.expected + 1) % 256; flag = false; waiting = Some (ack e.expected) }
 
 -- a frame of protocol kind was dropped: if the flag was down it goes up, and a NAK with the ID before the expected one becomes the waiting reply
 abbrev pub object : EndM → EndM
-object e = record {
-  next = e.next;
-  held = e.held;
-  sent = e.sent;
-  cursor = e.cursor;
-  expected = e.expected;
-  flag = true;
-  waiting = cond e.flag e.waiting (Some (nak ((e.expected + 255) % 256)));
-}
+object e = record e { flag = true; waiting = cond e.flag e.waiting (Some (nak ((e.expected + 255) % 256))) }
 
 -- the d oldest are released; the cursor does not fall below 0
 abbrev pub release : ℕ → EndM → EndM
-release d e = record {
-  next = e.next;
-  held = drop d e.held;
-  sent = e.sent - d;
-  cursor = e.cursor - d;
-  expected = e.expected;
-  flag = e.flag;
-  waiting = e.waiting;
-}
+release d e = record e { held = drop d e.held; sent = e.sent - d; cursor = e.cursor - d }
 
 -- a NAK rewinds
 abbrev pub rewind_on : ReplyKind → EndM → EndM

@@ -41,7 +41,7 @@ pub record Outcome : Type 0 where
 
 -- the end becomes another, and no frame is put
 abbrev pub becomes : Local → EndM → Answer → List ℕ → Outcome
-becomes s e x buffer = record { left = record { end = e; out = s.out; into = s.into }; answer = x; buffer = buffer }
+becomes s e x buffer = record { left = record s { end = e }; answer = x; buffer = buffer }
 
 -- refused, and the end stays as it is
 abbrev pub refuses : Local → Refusal → List ℕ → Outcome

@@ -66,7 +66,7 @@ sending e = sending_after e.waiting e
 
 -- the outcome once it is put, by what is then on its way
 abbrev pub once_put : Local → Sending → List FrameM → Outcome
-once_put s w out = record { left = record { end = w.end; out = out; into = s.into }; answer = w.answer; buffer = [] }
+once_put s w out = record { left = record s { end = w.end; out = out }; answer = w.answer; buffer = [] }
 
 -- the carrier's meaning says what is then on its way: nothing else is open
 pub record Sent (s : Local) (w : Sending) (o : Outcome) : Type 0 where
@@ -116,7 +116,7 @@ arriving_read (Err fault) s f buffer = arriving_broken s (kind_of f) fault buffe
 
 abbrev pub arriving_from : List FrameM → Local → List ℕ → Outcome
 arriving_from [] s buffer = refuses s (carrier_refusal NoneWaiting) buffer
-arriving_from (f ∷ rest) s buffer = arriving_read (reading f) (record { end = s.end; out = s.out; into = rest }) f buffer
+arriving_from (f ∷ rest) s buffer = arriving_read (reading f) (record s { into = rest }) f buffer
 
 -- arrive with the host's buffer: 6 if no frame waits; else the oldest is taken and read
 abbrev pub arriving : Local → List ℕ → Outcome
