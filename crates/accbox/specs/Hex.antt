@@ -1,5 +1,5 @@
 -- What hex digits write.
-use Rattle.std.specs.Prelude.{ℕ, ◌+◌, ◌-◌, ◌*◌, Bool, cond, ◌&&◌, List, [], ◌∷◌, Some, None, Option, nat_le}
+use Rattle.std.specs.Prelude.{ℕ, ◌+◌, ◌-◌, ◌*◌, Bool, if◌then◌else◌, ◌&&◌, List, [], ◌∷◌, Some, None, Option, nat_le}
 use Rattle.accbox.specs.Read.{with_first}
 
 -- a letter from the first to the last of these
@@ -8,7 +8,7 @@ among first last c = nat_le first c && nat_le c last
 
 -- the number of a hex digit, which is one of 0 to 9, a to f and A to F
 abbrev pub hex_digit : ℕ → Option ℕ
-hex_digit c = cond (among 48 57 c) (Some (c - 48)) (cond (among 97 102 c) (Some (c - 87)) (cond (among 65 70 c) (Some (c - 55)) None))
+hex_digit c = if among 48 57 c then Some (c - 48) else if among 97 102 c then Some (c - 87) else if among 65 70 c then Some (c - 55) else None
 
 -- sixteen times the high digit, and the low one
 abbrev pub hex_pair : Option ℕ → Option ℕ → Option ℕ

@@ -1,12 +1,12 @@
 -- What digits write as marks.
-use Rattle.std.specs.Prelude.{ℕ, ◌-◌, cond, List, [], ◌∷◌, Some, None, Option, nat_le}
+use Rattle.std.specs.Prelude.{ℕ, ◌-◌, if◌then◌else◌, List, [], ◌∷◌, Some, None, Option, nat_le}
 use Rattle.terms.specs.Mark.{mark_of}
 use Rattle.terms.specs.declared.mark.Mark.{Mark}
 use Rattle.accbox.specs.Read.{with_first}
 
 -- the mark of a digit, which is one of 0 to 3
 abbrev pub digit_mark : ℕ → Option Mark
-digit_mark c = cond (nat_le 48 c) (mark_of (c - 48)) None
+digit_mark c = if nat_le 48 c then mark_of (c - 48) else None
 
 -- the mark that a single digit writes
 abbrev pub one_mark : List ℕ → Option Mark

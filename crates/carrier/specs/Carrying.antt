@@ -1,5 +1,5 @@
 -- What a carrier may make of a frame that is put.
-use Rattle.std.specs.Prelude.{◌≡◌, ℕ, ◌/◌, Bool, cond, List, [], ◌∷◌, ◌++◌, length, Some, None, Ok, Err, Option, Result}
+use Rattle.std.specs.Prelude.{◌≡◌, ℕ, ◌/◌, Bool, if◌then◌else◌, List, [], ◌∷◌, ◌++◌, length, Some, None, Ok, Err, Option, Result}
 use Rattle.frame.specs.Frame.{FrameM, Grouped}
 use Rattle.frame.specs.Reading.{Broken}
 use Rattle.carrier.specs.declared.fault.CarrierFault.{CarrierFault}
@@ -11,7 +11,7 @@ groups_of f = length f.bytes / 128
 
 -- the answer to a put, by whether the carrier is full
 abbrev pub putting : Bool → Result (Unit {0}) CarrierFault
-putting full = cond full (Err Full) (Ok tt)
+putting full = if full then Err Full else Ok tt
 
 -- what waits after the frame f was put where the frames before waited: at the end there is that frame, or a broken one, or nothing
 pub data Added (before : List FrameM) (f : FrameM) (after : List FrameM) : Type 0 where

@@ -1,5 +1,5 @@
 -- What each harm does to a frame.
-use Rattle.std.specs.Prelude.{◌≡◌, ℕ, Bool, true, cond, ◌⊎◌, List, length, Some, None, Ok, Err, Option, Result, nat_lt}
+use Rattle.std.specs.Prelude.{◌≡◌, ℕ, Bool, true, if◌then◌else◌, ◌⊎◌, List, length, Some, None, Ok, Err, Option, Result, nat_lt}
 use Rattle.std.specs.List.{list_all}
 use Rattle.frame.specs.Frame.{FrameM, Grouped, flipped}
 use Rattle.frame.specs.Reading.{reading, Broken}
@@ -17,7 +17,7 @@ if_good (Err fault) f = None
 abbrev pub harmed : Harm → FrameM → Option FrameM
 harmed Pass f = Some f
 harmed Drop f = None
-harmed (Flip place mask) f = cond (nat_lt place (length f.bytes)) (if_good (reading f) (flipped f place mask)) (Some f)
+harmed (Flip place mask) f = if nat_lt place (length f.bytes) then if_good (reading f) (flipped f place mask) else Some f
 
 -- a harm that a plan takes: the mask of a flip is not zero
 abbrev pub harms : Harm → Bool

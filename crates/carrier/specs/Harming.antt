@@ -1,5 +1,5 @@
 -- The harming carrier: its plan, and what it hands to the carrier below.
-use Rattle.std.specs.Prelude.{◌≡◌, ℕ, ◌+◌, cond, List, [], ◌∷◌, ◌++◌, length, drop, Some, None, Ok, Err, Option, Result, nat_le}
+use Rattle.std.specs.Prelude.{◌≡◌, ℕ, ◌+◌, if◌then◌else◌, List, [], ◌∷◌, ◌++◌, length, drop, Some, None, Ok, Err, Option, Result, nat_le}
 use Rattle.std.specs.VecDeque.{deque_items}
 use Rattle.frame.specs.Frame.{FrameM}
 use Rattle.carrier.specs.Harm.{harmed, harms}
@@ -15,7 +15,7 @@ plan_of s = deque_items s.plan
 
 -- why a harm is not planned: first a mask of zero, then a plan of 64
 abbrev pub plan_fault : List Harm → Harm → Option PlanFault
-plan_fault plan harm = cond (harms harm) (cond (nat_le 64 (length plan)) (Some Full) None) (Some Mask)
+plan_fault plan harm = if harms harm then (if nat_le 64 (length plan) then Some Full else None) else Some Mask
 
 -- the answer, by that reason
 abbrev pub planning_unless : Option PlanFault → List Harm → Result ℕ PlanFault

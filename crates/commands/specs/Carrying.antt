@@ -1,5 +1,5 @@
 -- What each command on a carrier answers, and what it makes of the carrier.
-use Rattle.std.specs.Prelude.{ℕ, Bool, cond, List, [], ◌∷◌, ◌++◌, drop, Some, None, Ok, Err, Option, Result}
+use Rattle.std.specs.Prelude.{ℕ, Bool, if◌then◌else◌, List, [], ◌∷◌, ◌++◌, drop, Some, None, Ok, Err, Option, Result}
 use Rattle.std.specs.Option.{option_map}
 use Rattle.frame.specs.Frame.{FrameM}
 use Rattle.carrier.specs.Carrying.{groups_of}
@@ -54,7 +54,7 @@ full_for f c = straight_full c.waiting (groups_of f)
 
 -- the frame is put, or there is no room for it
 abbrev pub put_answer : FrameM → CarrierM → Answer
-put_answer f c = cond (full_for f c) (Refused (carrier_refusal Full)) Put
+put_answer f c = if full_for f c then Refused (carrier_refusal Full) else Put
 
 -- what waits then: what is left of the frame stands at the end, if anything is left of it
 abbrev pub waiting_after : Option FrameM → List FrameM → List FrameM
@@ -63,7 +63,7 @@ waiting_after (Some f) waiting = waiting ++ f ∷ []
 
 -- the carrier after a put: where there is room, the oldest harm is used up on the frame
 abbrev pub put_after : FrameM → CarrierM → CarrierM
-put_after f c = cond (full_for f c) c (record { waiting = waiting_after (harmed (next_harm c.plan) f) c.waiting; plan = drop 1 c.plan })
+put_after f c = if full_for f c then c else record { waiting = waiting_after (harmed (next_harm c.plan) f) c.waiting; plan = drop 1 c.plan }
 
 -- the answer to a put, which asks for the frame first and then for the carrier
 abbrev pub put_says : Option FrameM → Option CarrierM → Result Answer Trouble

@@ -1,5 +1,5 @@
 -- What each command answers, and what it makes of a session: of the frame that it works on and of its carrier.
-use Rattle.std.specs.Prelude.{◌≡◌, ℕ, ◌/◌, cond, List, length, replicate, Some, None, Ok, Err, vec_items, Option, Result, Vec, nat_lt}
+use Rattle.std.specs.Prelude.{◌≡◌, ℕ, ◌/◌, if◌then◌else◌, List, length, replicate, Some, None, Ok, Err, vec_items, Option, Result, Vec, nat_lt}
 use Rattle.std.specs.Option.{option_map}
 use Rattle.std.specs.declared.alloc.Global.{Global}
 use Rattle.terms.specs.Fault.{packet_refusal, frame_refusal, unpack_refusal}
@@ -46,7 +46,7 @@ on_frame (Some f) answer = Ok (answer f)
 
 -- why a load is no packet
 abbrev pub load_fault : Load → Option PacketFault
-load_fault (Filled size fill) = cond (one_of_five size) None (Some Length)
+load_fault (Filled size fill) = if one_of_five size then None else Some Length
 load_fault (Bytes v) = packet_fault (vec_items v)
 
 -- the bytes of the packet that a load makes
@@ -71,11 +71,11 @@ raw_answer (Some fault) bytes marks = Err (shape_trouble fault bytes marks)
 
 -- a flip of a place inside the frame, or outside it
 abbrev pub flip_answer : ℕ → ℕ → FrameM → Answer
-flip_answer place mask f = cond (nat_lt place (length f.bytes)) (Flipped place mask) Outside
+flip_answer place mask f = if nat_lt place (length f.bytes) then Flipped place mask else Outside
 
 -- a mark on a character inside the frame, or outside it
 abbrev pub mark_answer : ℕ → Mark → FrameM → Answer
-mark_answer c m f = cond (nat_lt c (length f.marks)) (Marked c m) Outside
+mark_answer c m f = if nat_lt c (length f.marks) then Marked c m else Outside
 
 -- what reading gave
 abbrev pub read_answer : Result Content FrameFault → Answer

@@ -1,9 +1,9 @@
 -- The cyclic checks of the link: a check over a width w and a polynomial p, and the link check.
-use Rattle.std.specs.Prelude.{◌≡◌, ℕ, zero, suc, ◌-◌, ◌*◌, ◌/◌, ◌%◌, ◌^◌, ◌<◌, cond, List, fold, length, ◌==◌, bit_xor, slice_index, slice_set}
+use Rattle.std.specs.Prelude.{◌≡◌, ℕ, zero, suc, ◌-◌, ◌*◌, ◌/◌, ◌%◌, ◌^◌, ◌<◌, if◌then◌else◌, List, fold, length, ◌==◌, bit_xor, slice_index, slice_set}
 
 -- one bit: it is xored with the state's top bit, the state moves left by one within w bits, and where that xor was 1 the polynomial is xored in
 unfoldable pub bit_step : ℕ → ℕ → ℕ → ℕ → ℕ
-bit_step w p s b = cond (bit_xor (s / 2 ^ (w - 1)) b == 1) (bit_xor (s * 2 % 2 ^ w) p) (s * 2 % 2 ^ w)
+bit_step w p s b = if bit_xor (s / 2 ^ (w - 1)) b == 1 then bit_xor (s * 2 % 2 ^ w) p else s * 2 % 2 ^ w
 
 -- the low k bits of a byte, from the highest of them down to bit 0
 abbrev pub bits_run : ℕ → ℕ → ℕ → ℕ → ℕ → ℕ

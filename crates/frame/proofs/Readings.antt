@@ -10,7 +10,7 @@ use Rattle.frame.specs.Form.{kind_of, form_mark, allows, sealed, reply_frame, re
 use Rattle.frame.specs.Frame.{FrameM, Grouped, byte_at, mark_at}
 use Rattle.terms.specs.Mark.{mark_number}
 use Rattle.frame.specs.Packet.{IsPacket}
-use Rattle.frame.specs.Reading.{refused_at, then, sync_right, mark_right, byte_right, unit_right, lowest_mark, lowest_byte, lowest_unit, sync_checked, form_checked, units_checked, reply_of, word_check, link_right, reading_as, reading, Good, packet, reply, Says}
+use Rattle.frame.specs.Reading.{refused_at, once_ok, sync_right, mark_right, byte_right, unit_right, lowest_mark, lowest_byte, lowest_unit, sync_checked, form_checked, units_checked, reply_of, word_check, link_right, reading_as, reading, Good, packet, reply, Says}
 use Rattle.frame.specs.Word.{word_bytes}
 use Rattle.terms.specs.declared.content.Content.{Content}
 use Rattle.terms.specs.declared.content.Content.TheVariants as content
@@ -31,7 +31,7 @@ use Rattle.frame.proofs.Protocols.{ProtocolForm, sized, sealed_long, sealed_byte
 clash : {X : Type 0} {A : Type 0} {E : Type 0} {x : A} {e : E} → ◌≡◌ {A = Result A E} (Err e) (Ok x) → X
 clash p = absurd (let z : ◌≡◌ {A = ℕ} 0 1 = cc in omega arith)
 
-then_ok : {A : Type 0} (r : Result (Unit {0}) FrameFault) (rest : Result A FrameFault) (x : A) → then r rest ≡ Ok x → (r ≡ Ok tt) × (rest ≡ Ok x)
+then_ok : {A : Type 0} (r : Result (Unit {0}) FrameFault) (rest : Result A FrameFault) (x : A) → once_ok r rest ≡ Ok x → (r ≡ Ok tt) × (rest ≡ Ok x)
 then_ok (Ok u) rest x e = (refl, e)
 then_ok (Err f) rest x e = clash e
 
@@ -183,16 +183,16 @@ reading_says f groups g (Err fault) e = λ good. let p = good_ok f good in clash
 
 pub link_answer : (f : FrameM) (b : Bool) → length f.bytes ≤ 128 → Ok tt ≡ form_checked Link f → link_right f ≡ b → cond b (Ok (content.Reply (reply_of f))) (Err (Check 14)) ≡ reading_as Link f
 link_answer f b short a right =
-    ap₂ (λ r s. then r (cond s (Ok (content.Reply (reply_of f))) (Err (Check 14)))) a (sym right)
+    ap₂ (λ r s. once_ok r (cond s (Ok (content.Reply (reply_of f))) (Err (Check 14)))) a (sym right)
     ∙ sym (cond-false (ltb 128 (length f.bytes)) (Err (Form 128)) _ (le-ltb 128 (length f.bytes) short))
 
 pub read_answer : (f : FrameM) (kind : Kind) → Ok tt ≡ sync_checked f → kind ≡ kind_of f → reading_as kind f ≡ reading f
 unfolding reading
-read_answer f kind a b = ap₂ (λ r k. then r (reading_as k f)) a b
+read_answer f kind a b = ap₂ (λ r k. once_ok r (reading_as k f)) a b
 
 pub sync_answer : (f : FrameM) (e : FrameFault) → Err e ≡ sync_checked f → Err e ≡ reading f
 unfolding reading
-sync_answer f e a = ap (λ r. then r (reading_as (kind_of f) f)) a
+sync_answer f e a = ap (λ r. once_ok r (reading_as (kind_of f) f)) a
 
 -- a link form's eight bytes are those of the reply that it names
 pub word_there : (f : FrameM) → length f.bytes ≡ 128 → Ok tt ≡ form_checked Link f → take 8 (drop 8 f.bytes) ≡ word_bytes (reply_of f) (byte_at f 14) (byte_at f 15)

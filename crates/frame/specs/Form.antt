@@ -1,5 +1,5 @@
 -- The two forms of a frame: what each place and each character holds.
-use Rattle.std.specs.Prelude.{ℕ, ◌+◌, ◌-◌, ◌/◌, ◌%◌, Bool, true, false, cond, ◌&&◌, ◌||◌, List, [], ◌∷◌, map, length, ◌==◌, nat_le, nat_lt, slice_index, slice_set}
+use Rattle.std.specs.Prelude.{ℕ, ◌+◌, ◌-◌, ◌/◌, ◌%◌, Bool, true, false, if◌then◌else◌, ◌&&◌, ◌||◌, List, [], ◌∷◌, map, length, ◌==◌, nat_le, nat_lt, slice_index, slice_set}
 use Rattle.std.specs.List.{range_with_len}
 use Rattle.crc.specs.Check.{link_check}
 use Rattle.frame.specs.Units.{unit_check}
@@ -13,7 +13,7 @@ use Rattle.terms.specs.declared.reply.Reply.{Reply}
 
 -- link kind exactly if character 0 has mark 2 and place 0 is 0x5C
 abbrev pub kind_of : FrameM → Kind
-kind_of f = cond (mark_at f 0 == 2 && byte_at f 0 == 0x5C) Link Protocol
+kind_of f = if mark_at f 0 == 2 && byte_at f 0 == 0x5C then Link else Protocol
 
 -- a mark that is no sync error
 abbrev pub is_synced : Mark → Bool
@@ -25,22 +25,23 @@ is_synced Three = false
 -- the mark of character c of n: in a link frame all are control, in a protocol frame the first and the last are
 abbrev pub form_mark : Kind → ℕ → ℕ → Mark
 form_mark Link n c = Control
-form_mark Protocol n c = cond (c == 0 || c + 1 == n) Control Data
+form_mark Protocol n c = if c == 0 || c + 1 == n then Control else Data
 
 -- a place of a protocol frame of n bytes: place 0 is 0xFB, the last six are 0xFD, the others are free
 unfoldable pub protocol_allows : ℕ → ℕ → ℕ → Bool
-protocol_allows n k b = cond (k == 0) (b == 0xFB) (cond (nat_le n (k + 6)) (b == 0xFD) true)
+protocol_allows n k b = if k == 0 then b == 0xFB else if nat_le n (k + 6) then b == 0xFD else true
 
 -- a place of a link frame: the ID at 10 and the check at 14 and 15 are free, place 9 has one of two values, every other has one
 unfoldable pub link_allows : ℕ → ℕ → Bool
 link_allows k b =
-    cond (nat_lt k 8) (b == 0x5C)
-    (cond (k == 8) (b == 0xA5)
-    (cond (k == 9) (b == 0x00 || b == 0x80)
-    (cond (k == 10) true
-    (cond (nat_lt k 14) (b == 0)
-    (cond (nat_lt k 16) true
-    (cond (nat_lt k 24) (b == 0xFD) (b == 0)))))))
+    if nat_lt k 8 then b == 0x5C
+    else if k == 8 then b == 0xA5
+    else if k == 9 then b == 0x00 || b == 0x80
+    else if k == 10 then true
+    else if nat_lt k 14 then b == 0
+    else if nat_lt k 16 then true
+    else if nat_lt k 24 then b == 0xFD
+    else b == 0
 
 abbrev pub allows : Kind → ℕ → ℕ → ℕ → Bool
 allows Protocol n k b = protocol_allows n k b
@@ -49,10 +50,11 @@ allows Link n k b = link_allows k b
 -- place k of the protocol frame of the packet p under an ID: the start, the ID, the packet's bytes, the checks of units 0 to 7, the end
 unfoldable pub protocol_byte : ℕ → List ℕ → ℕ → ℕ
 protocol_byte id p k =
-    cond (k == 0) 0xFB
-    (cond (k == 1) id
-    (cond (nat_lt (k + 14) (length p)) (slice_index p k)
-    (cond (nat_lt (k + 6) (length p)) (unit_check (slice_set p 1 id) (k + 14 - length p)) 0xFD)))
+    if k == 0 then 0xFB
+    else if k == 1 then id
+    else if nat_lt (k + 14) (length p) then slice_index p k
+    else if nat_lt (k + 6) (length p) then unit_check (slice_set p 1 id) (k + 14 - length p)
+    else 0xFD
 
 -- the link check of a reply, over places 8 to 13: the tag, the kind, the ID and three zeros
 unfoldable pub reply_check : Reply → ℕ
@@ -61,14 +63,15 @@ reply_check r = link_check (0xA5 ∷ kind_byte r.kind ∷ r.id ∷ 0 ∷ 0 ∷ 0
 -- place k of the link frame of a reply, the check low byte first
 unfoldable pub link_byte : Reply → ℕ → ℕ
 link_byte r k =
-    cond (nat_lt k 8) 0x5C
-    (cond (k == 8) 0xA5
-    (cond (k == 9) (kind_byte r.kind)
-    (cond (k == 10) r.id
-    (cond (nat_lt k 14) 0
-    (cond (k == 14) (reply_check r % 256)
-    (cond (k == 15) (reply_check r / 256)
-    (cond (nat_lt k 24) 0xFD 0)))))))
+    if nat_lt k 8 then 0x5C
+    else if k == 8 then 0xA5
+    else if k == 9 then kind_byte r.kind
+    else if k == 10 then r.id
+    else if nat_lt k 14 then 0
+    else if k == 14 then reply_check r % 256
+    else if k == 15 then reply_check r / 256
+    else if nat_lt k 24 then 0xFD
+    else 0
 
 -- a frame of n bytes, given place by place and with the marks of its kind
 abbrev pub framed : Kind → ℕ → (ℕ → ℕ) → FrameM

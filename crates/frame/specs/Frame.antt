@@ -1,5 +1,5 @@
 -- A frame as the rules speak of it: its bytes and its marks.
-use Rattle.std.specs.Prelude.{◌≡◌, ℕ, ◌*◌, ◌/◌, ◌≤◌, cond, List, length, Some, None, Option, ◌==◌, bit_xor, slice_index, slice_index_or, slice_set}
+use Rattle.std.specs.Prelude.{◌≡◌, ℕ, ◌*◌, ◌/◌, ◌≤◌, if◌then◌else◌, List, length, Some, None, Option, ◌==◌, bit_xor, slice_index, slice_index_or, slice_set}
 use Rattle.terms.specs.Mark.{mark_number}
 use Rattle.frame.specs.Packet.{one_of_five}
 use Rattle.terms.specs.declared.fault.ShapeFault.{ShapeFault}
@@ -17,7 +17,7 @@ parted bs ms = record { bytes = bs; marks = ms }
 
 -- why so many bytes and so many marks make no frame: the bytes are not one to five whole groups, or there is not one mark to every sixteen bytes
 abbrev pub parts_fault : ℕ → ℕ → Option ShapeFault
-parts_fault bs ms = cond (one_of_five bs) (cond (ms == bs / 16) None (Some Marks)) (Some Bytes)
+parts_fault bs ms = if one_of_five bs then (if ms == bs / 16 then None else Some Marks) else Some Bytes
 
 -- one to five groups of eight characters, a character being sixteen bytes and a mark
 pub record Grouped (f : FrameM) (groups : ℕ) : Type 0 where

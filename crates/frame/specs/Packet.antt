@@ -1,5 +1,5 @@
 -- A packet: its bytes, and which bytes are one.
-use Rattle.std.specs.Prelude.{◌≡◌, ℕ, ◌%◌, Bool, true, cond, not, ◌&&◌, ◌||◌, List, length, Some, None, Option, ◌==◌, nat_le, slice_index}
+use Rattle.std.specs.Prelude.{◌≡◌, ℕ, ◌%◌, Bool, true, if◌then◌else◌, not, ◌&&◌, ◌||◌, List, length, Some, None, Option, ◌==◌, nat_le, slice_index}
 use Rattle.frame.specs.Lowest.{lowest_wrong}
 use Rattle.frame.specs.Reserved.{reserved, cleared}
 use Rattle.terms.specs.declared.fault.PacketFault.{PacketFault}
@@ -29,6 +29,5 @@ reserved_fault (Some k) = Some (Reserved k)
 -- why the bytes are no packet: first their length, then the lowest reserved place that is not zero
 abbrev pub packet_fault : List ℕ → Option PacketFault
 packet_fault xs =
-    cond (one_of_five (length xs))
-    (reserved_fault (lowest_reserved xs))
-    (Some Length)
+    if one_of_five (length xs) then reserved_fault (lowest_reserved xs)
+    else Some Length

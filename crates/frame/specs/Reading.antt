@@ -1,5 +1,5 @@
 -- What reading makes of a frame, and which frames are good.
-use Rattle.std.specs.Prelude.{◌≡◌, ℕ, ◌+◌, ◌-◌, ◌*◌, ◌/◌, ◌%◌, Bool, cond, ◌&&◌, ◌||◌, List, length, take, drop, Some, None, Ok, Err, Option, Result, ◌==◌, nat_lt}
+use Rattle.std.specs.Prelude.{◌≡◌, ℕ, ◌+◌, ◌-◌, ◌*◌, ◌/◌, ◌%◌, Bool, if◌then◌else◌, ◌&&◌, ◌||◌, List, length, take, drop, Some, None, Ok, Err, Option, Result, ◌==◌, nat_lt}
 use Rattle.crc.specs.Check.{link_check}
 use Rattle.frame.specs.Units.{unit_check}
 use Rattle.frame.specs.Form.{kind_of, form_mark, allows, sealed, reply_frame}
@@ -23,9 +23,9 @@ refused_at fault None = Ok tt
 refused_at fault (Some k) = Err (fault k)
 
 -- what follows, where nothing was refused before
-abbrev pub then : {A : Type 0} → Result (Unit {0}) FrameFault → Result A FrameFault → Result A FrameFault
-then (Ok _) rest = rest
-then (Err e) rest = Err e
+abbrev pub once_ok : {A : Type 0} → Result (Unit {0}) FrameFault → Result A FrameFault → Result A FrameFault
+once_ok (Ok _) rest = rest
+once_ok (Err e) rest = Err e
 
 -- a mark that is 1 or 2
 abbrev pub sync_right : FrameM → ℕ → Bool
@@ -65,7 +65,7 @@ sync_checked f = refused_at Sync (lowest_sync f)
 
 -- the form: first the lowest wrong mark, named by its character's first place, then the lowest wrong fixed byte
 abbrev pub form_checked : Kind → FrameM → Result (Unit {0}) FrameFault
-form_checked kind f = then (refused_at (λ c. Form (16 * c)) (lowest_mark kind f)) (refused_at Form (lowest_byte kind f))
+form_checked kind f = once_ok (refused_at (λ c. Form (16 * c)) (lowest_mark kind f)) (refused_at Form (lowest_byte kind f))
 
 -- the unit checks
 abbrev pub units_checked : FrameM → Result (Unit {0}) FrameFault
@@ -73,7 +73,7 @@ units_checked f = refused_at (λ j. Check (length f.bytes - 14 + j)) (lowest_uni
 
 -- the reply that a link frame names
 abbrev pub reply_of : FrameM → Reply
-reply_of f = record { kind = cond (byte_at f 9 == 0x80) Nak Ack; id = byte_at f 10 }
+reply_of f = record { kind = if byte_at f 9 == 0x80 then Nak else Ack; id = byte_at f 10 }
 
 -- the link check of a frame's places 8 to 13
 abbrev pub word_check : FrameM → ℕ
@@ -85,14 +85,14 @@ link_right f = byte_at f 14 == word_check f % 256 && byte_at f 15 == word_check 
 
 abbrev pub reading_as : Kind → FrameM → Result Content FrameFault
 reading_as Protocol f =
-    then (form_checked Protocol f) (then (units_checked f) (Ok (content.Packet (byte_at f 1) (length f.bytes))))
+    once_ok (form_checked Protocol f) (once_ok (units_checked f) (Ok (content.Packet (byte_at f 1) (length f.bytes))))
 reading_as Link f =
-    cond (nat_lt 128 (length f.bytes)) (Err (Form 128))
-    (then (form_checked Link f) (cond (link_right f) (Ok (content.Reply (reply_of f))) (Err (Check 14))))
+    if nat_lt 128 (length f.bytes) then Err (Form 128)
+    else once_ok (form_checked Link f) (if link_right f then Ok (content.Reply (reply_of f)) else Err (Check 14))
 
 -- what reading gives: sync errors first, then the form, a link frame over one group before all else, then the checks
 unfoldable pub reading : FrameM → Result Content FrameFault
-reading f = then (sync_checked f) (reading_as (kind_of f) f)
+reading f = once_ok (sync_checked f) (reading_as (kind_of f) f)
 
 -- a good frame is the protocol frame of a packet under an ID, or the link frame of a reply
 pub data Good (f : FrameM) : Type 0 where

@@ -1,5 +1,5 @@
 -- What a host's buffer gets of a frame.
-use Rattle.std.specs.Prelude.{◌≡◌, ℕ, ◌≤◌, cond, List, ◌++◌, length, drop, Ok, Err, Result, nat_lt}
+use Rattle.std.specs.Prelude.{◌≡◌, ℕ, ◌≤◌, if◌then◌else◌, List, ◌++◌, length, drop, Ok, Err, Result, nat_lt}
 use Rattle.frame.specs.Frame.{FrameM}
 use Rattle.frame.specs.Reading.{reading}
 use Rattle.frame.specs.Reserved.{cleared}
@@ -12,11 +12,11 @@ use Rattle.terms.specs.declared.fault.UnpackFault.TheVariants as unpack
 
 -- copying out the bytes of a frame, into a buffer of so many bytes: their number, or that the buffer is shorter
 abbrev pub copying : FrameM → ℕ → Result ℕ HostFault
-copying f room = cond (nat_lt room (length f.bytes)) (Err (record { needed = length f.bytes })) (Ok (length f.bytes))
+copying f room = if nat_lt room (length f.bytes) then Err (record { needed = length f.bytes }) else Ok (length f.bytes)
 
 -- the buffer after it: the frame's bytes with the reserved places zero, and the rest as it was; untouched if it is shorter
 abbrev pub copied_into : FrameM → List ℕ → List ℕ
-copied_into f buffer = cond (nat_lt (length buffer) (length f.bytes)) buffer (cleared f.bytes ++ drop (length f.bytes) buffer)
+copied_into f buffer = if nat_lt (length buffer) (length f.bytes) then buffer else cleared f.bytes ++ drop (length f.bytes) buffer
 
 -- what was read, once the buffer has taken its bytes
 abbrev pub once_copied : Content → Result ℕ HostFault → Result Content UnpackFault

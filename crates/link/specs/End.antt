@@ -1,5 +1,5 @@
 -- An end of the link, and what becomes of it.
-use Rattle.std.specs.Prelude.{ℕ, ◌+◌, ◌-◌, ◌%◌, max, Bool, true, false, cond, List, [], ◌∷◌, ◌++◌, length, drop, Some, None, Option}
+use Rattle.std.specs.Prelude.{ℕ, ◌+◌, ◌-◌, ◌%◌, max, Bool, true, false, if◌then◌else◌, List, [], ◌∷◌, ◌++◌, length, drop, Some, None, Option}
 use Rattle.terms.specs.declared.reply.Reply.{Reply}
 use Rattle.terms.specs.declared.reply.ReplyKind.{ReplyKind}
 use Rattle.terms.specs.declared.reply.ReplyKind.TheVariants.{Ack, Nak}
@@ -56,7 +56,7 @@ accept e = record e { expected = (e.expected + 1) % 256; flag = false; waiting =
 
 -- a frame of protocol kind was dropped: if the flag was down it goes up, and a NAK with the ID before the expected one becomes the waiting reply
 abbrev pub object : EndM → EndM
-object e = record e { flag = true; waiting = cond e.flag e.waiting (Some (nak ((e.expected + 255) % 256))) }
+object e = record e { flag = true; waiting = if e.flag then e.waiting else Some (nak ((e.expected + 255) % 256)) }
 
 -- the d oldest are released; the cursor does not fall below 0
 abbrev pub release : ℕ → EndM → EndM

@@ -1,5 +1,5 @@
 -- The rules of an end: what each of its five calls leaves and answers.
-use Rattle.std.specs.Prelude.{◌≡◌, ℕ, Bool, true, false, cond, List, [], ◌∷◌, ◌++◌, length, drop, Some, None, Ok, Err, Option, Result, ◌==◌, nat_le, nat_lt, slice_index_or}
+use Rattle.std.specs.Prelude.{◌≡◌, ℕ, Bool, true, false, if◌then◌else◌, List, [], ◌∷◌, ◌++◌, length, drop, Some, None, Ok, Err, Option, Result, ◌==◌, nat_le, nat_lt, slice_index_or}
 use Rattle.terms.specs.Fault.{packet_refusal, frame_refusal, host_refusal}
 use Rattle.terms.specs.declared.content.Content.{Content}
 use Rattle.terms.specs.declared.content.Content.TheVariants as content
@@ -22,9 +22,8 @@ use Rattle.link.specs.Outcome.{Local, Answer, taken, sent_packet, sent_reply, re
 abbrev pub offering_unless : Option PacketFault → Local → List ℕ → Outcome
 offering_unless (Some fault) s p = refuses s (packet_refusal fault) []
 offering_unless None s p =
-    cond (nat_le 16 (length s.end.held))
-    (refuses s (by_end 3 0) [])
-    (becomes s (hold p s.end) (taken s.end.next) [])
+    if nat_le 16 (length s.end.held) then refuses s (by_end 3 0) []
+    else becomes s (hold p s.end) (taken s.end.next) []
 
 -- offer of any bytes: 1 or 2 if they are no packet, 3 if sixteen are held; else the packet is held, and its ID answered
 abbrev pub offering : Local → List ℕ → Outcome
@@ -32,7 +31,7 @@ offering s p = offering_unless (packet_fault p) s p
 
 -- late: 13 if none of the held packets was ever dispatched; else the cursor goes back to the oldest
 abbrev pub rewinding : Local → Outcome
-rewinding s = cond (s.end.sent == 0) (refuses s (by_end 13 0) []) (becomes s (rewind s.end) rewound [])
+rewinding s = if s.end.sent == 0 then refuses s (by_end 13 0) [] else becomes s (rewind s.end) rewound []
 
 -- outstanding: how many packets are held
 abbrev pub counting : Local → Outcome
@@ -58,7 +57,7 @@ packet_out e = record {
 
 abbrev pub sending_after : Option Reply → EndM → Option Sending
 sending_after (Some r) e = Some (reply_out r e)
-sending_after None e = cond (nat_lt e.cursor (length e.held)) (Some (packet_out e)) None
+sending_after None e = if nat_lt e.cursor (length e.held) then Some (packet_out e) else None
 
 -- what an end has to send: the waiting reply first, then the held packet at the cursor
 abbrev pub sending : EndM → Option Sending
@@ -86,22 +85,22 @@ DispatchesAs full s (Some w) o = SentUnless (full s.out (groups_of w.frame)) s w
 abbrev pub Dispatches : (List FrameM → ℕ → Bool) → Local → Outcome → Type 0
 Dispatches full s o = DispatchesAs full s (sending s.end) o
 
--- a good packet: 10 if it is not the expected one, 11 if the buffer is shorter; else it is handed up, and the buffer's first n bytes become the packet
+-- the expected packet: 11 if the buffer is shorter; else it is handed up, and the buffer's first n bytes become the packet
+abbrev pub arriving_expected : Local → ℕ → ℕ → FrameM → List ℕ → Outcome
+arriving_expected s id n f buffer =
+    if nat_lt (length buffer) n then drops s (host_refusal (record { needed = n })) buffer
+    else becomes s (accept s.end) (handed_up id n) (cleared f.bytes ++ drop n buffer)
+
+-- a good packet: 10 if it is not the expected one
 abbrev pub arriving_packet : Local → ℕ → ℕ → FrameM → List ℕ → Outcome
-arriving_packet s id n f buffer =
-    cond (id == s.end.expected)
-    (cond (nat_lt (length buffer) n)
-    (drops s (host_refusal (record { needed = n })) buffer)
-    (becomes s (accept s.end) (handed_up id n) (cleared f.bytes ++ drop n buffer)))
-    (drops s (by_end 10 id) buffer)
+arriving_packet s id n f buffer = if id == s.end.expected then arriving_expected s id n f buffer else drops s (by_end 10 id) buffer
 
 -- a good reply: 12 if it would release more than were ever dispatched; else the packets up to its ID are released
 abbrev pub arriving_reply : Local → Reply → List ℕ → Outcome
 arriving_reply s r buffer =
     let d = distance s.end r.id in
-    cond (nat_lt s.end.sent d)
-    (refuses s (by_end 12 r.id) buffer)
-    (becomes s (rewind_on r.kind (release d s.end)) (released d) buffer)
+    if nat_lt s.end.sent d then refuses s (by_end 12 r.id) buffer
+    else becomes s (rewind_on r.kind (release d s.end)) (released d) buffer
 
 -- a broken frame: the end objects to one of protocol kind, and not to one of link kind
 abbrev pub arriving_broken : Local → Kind → FrameFault → List ℕ → Outcome

@@ -1,5 +1,5 @@
 -- A mark and its number.
-use Rattle.std.specs.Prelude.{ℕ, cond, Some, None, Option, ◌==◌}
+use Rattle.std.specs.Prelude.{ℕ, if◌then◌else◌, Some, None, Option, ◌==◌}
 use Rattle.terms.specs.declared.mark.Mark.{Mark}
 use Rattle.terms.specs.declared.mark.Mark.TheVariants.{Zero, Data, Control, Three}
 
@@ -12,4 +12,4 @@ mark_number Three = 3
 
 -- the mark of a number, which is at most 3
 abbrev pub mark_of : ℕ → Option Mark
-mark_of n = cond (n == 0) (Some Zero) (cond (n == 1) (Some Data) (cond (n == 2) (Some Control) (cond (n == 3) (Some Three) None)))
+mark_of n = if n == 0 then Some Zero else if n == 1 then Some Data else if n == 2 then Some Control else if n == 3 then Some Three else None
