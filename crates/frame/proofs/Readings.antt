@@ -11,7 +11,7 @@ use Rattle.frame.specs.Frame.{FrameM, Grouped, byte_at, mark_at}
 use Rattle.terms.specs.Mark.{mark_number}
 use Rattle.frame.specs.Packet.{IsPacket}
 use Rattle.frame.specs.Reading.{refused_at, once_ok, sync_right, mark_right, byte_right, unit_right, lowest_mark, lowest_byte, lowest_unit, sync_checked, form_checked, units_checked, reply_of, word_check, link_right, reading_as, reading, Good, packet, reply, Says}
-use Rattle.frame.specs.Word.{word_bytes}
+use Rattle.frame.specs.Word.{reply_part}
 use Rattle.terms.specs.declared.content.Content.{Content}
 use Rattle.terms.specs.declared.content.Content.TheVariants as content
 use Rattle.terms.specs.declared.fault.FrameFault.{FrameFault}
@@ -195,7 +195,7 @@ unfolding reading
 sync_answer f e a = ap (λ r. once_ok r (reading_as (kind_of f) f)) a
 
 -- a link form's eight bytes are those of the reply that it names
-pub word_there : (f : FrameM) → length f.bytes ≡ 128 → Ok tt ≡ form_checked Link f → take 8 (drop 8 f.bytes) ≡ word_bytes (reply_of f) (byte_at f 14) (byte_at f 15)
+pub word_there : (f : FrameM) → length f.bytes ≡ 128 → Ok tt ≡ form_checked Link f → take 8 (drop 8 f.bytes) ≡ reply_part (reply_of f) (byte_at f 14) (byte_at f 15)
 word_there f one a =
     let allowed = (right_form Link f (sym a)).1 in
     let tag : byte_at f 8 ≡ 0xA5 = tag_is (byte_at f 8) (allowed 8 (omega arith)) in
@@ -222,7 +222,7 @@ halves x y = elim (cases_eq x y) [
 ]
 
 -- a reply by its bytes
-pub named_by : (r s : Reply) (a b c d : ℕ) → word_bytes r a b ≡ word_bytes s c d → r ≡ s
+pub named_by : (r s : Reply) (a b c d : ℕ) → reply_part r a b ≡ reply_part s c d → r ≡ s
 named_by r s a b c d e =
     ap₂ {C = Reply} (λ k i. record { kind = k; id = i })
     (kind_from r.kind s.kind (ap (λ (l : List ℕ). get_or l 1 0) e))

@@ -2,7 +2,7 @@
 use Rattle.std.proofs.Common.{◌≡◌, ℕ, ◌+◌, ◌-◌, ◌*◌, ◌<◌, ◌≤◌, List, length, get_or, take, drop, replicate, set, sym, ap, ◌∙◌, subst, ap₂, arith, length-append}
 use lib.Bits.{bit_xor}
 use lib.Seq.{take-set-lt}
-use Rattle.std.proofs.lemmas.List.{get_or-take, length-replicate, length-set, drop-set-lt, set_past, take_at, drop_at}
+use Rattle.std.proofs.lemmas.List.{get_or-take, length-replicate, take_at, drop_at}
 use Rattle.frame.specs.Frame.{FrameM, Grouped, parted, byte_at, flipped, marked}
 use Rattle.frame.specs.Packet.{IsPacket}
 use Rattle.frame.specs.Room.{in_room, Blank, PacketRoom, front, FrameRoom}
@@ -23,9 +23,6 @@ module _ {X : Type 0} (size : ℕ) (blank : X) (n : ℕ) (xs room : List X) (is 
 
 -- room with one item of the front changed
 module _ {X : Type 0} (size : ℕ) (blank : X) (n : ℕ) (room : List X) (b : Blank size blank n room) (k : ℕ) (x : X) (h : k < n) where
-  pub set_blank : Blank size blank n (set room k x)
-  set_blank = record { long = length-set room k x ∙ b.long; rest = drop-set-lt n room k x h ∙ b.rest }
-
   pub set_front : take n (set room k x) ≡ set (take n room) k x
   set_front = take-set-lt n room k x h
 
@@ -60,38 +57,8 @@ module _ (groups : ℕ) (bytes : List ℕ) (marks : List Mark) (r : FrameRoom gr
       ap (λ bs. parted bs frame.marks)
       (set_front 640 0 (128 * groups) bytes r.byte_room k _ h ∙ ap (λ b. set frame.bytes k (bit_xor b m)) (view_byte k h))
 
-  pub view_past : (k m : ℕ) → 128 * groups ≤ k → frame ≡ flipped frame k m
-  view_past k m h = ap (λ bs. parted bs frame.marks) (sym (set_past frame.bytes k _ (omega (arith, r.frame.bytes_long))))
-
   pub view_marked : (c : ℕ) (m : Mark) → c < 8 * groups → front groups bytes (set marks c m) ≡ marked frame c m
   view_marked c m h = ap (parted frame.bytes) (set_front 40 Zero (8 * groups) marks r.mark_room c m h)
-
-  pub view_unmarked : (c : ℕ) (m : Mark) → 8 * groups ≤ c → frame ≡ marked frame c m
-  view_unmarked c m h = ap (parted frame.bytes) (sym (set_past frame.marks c m (omega (arith, r.frame.marks_long))))
-
-  pub flipped_room : (k v : ℕ) → k < 128 * groups → FrameRoom groups (set bytes k v) marks
-  flipped_room k v h = record {
-    frame = record {
-      some = r.frame.some;
-      few = r.frame.few;
-      bytes_long = ap length (set_front 640 0 (128 * groups) bytes r.byte_room k v h) ∙ length-set frame.bytes k v ∙ r.frame.bytes_long;
-      marks_long = r.frame.marks_long;
-    };
-    byte_room = set_blank 640 0 (128 * groups) bytes r.byte_room k v h;
-    mark_room = r.mark_room;
-  }
-
-  pub marked_room : (c : ℕ) (m : Mark) → c < 8 * groups → FrameRoom groups bytes (set marks c m)
-  marked_room c m h = record {
-    frame = record {
-      some = r.frame.some;
-      few = r.frame.few;
-      bytes_long = r.frame.bytes_long;
-      marks_long = ap length (set_front 40 Zero (8 * groups) marks r.mark_room c m h) ∙ length-set frame.marks c m ∙ r.frame.marks_long;
-    };
-    byte_room = r.byte_room;
-    mark_room = set_blank 40 Zero (8 * groups) marks r.mark_room c m h;
-  }
 
 -- bytes that are a packet, and their room
 module _ (groups : ℕ) (xs bytes : List ℕ) (is : bytes ≡ in_room 640 0 xs) (long : 128 * groups ≡ length xs) (p : IsPacket xs) where

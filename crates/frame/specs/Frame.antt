@@ -26,6 +26,10 @@ pub record Grouped (f : FrameM) (groups : ℕ) : Type 0 where
   pub bytes_long : length f.bytes ≡ 128 * groups
   pub marks_long : length f.marks ≡ 8 * groups
 
+-- so of some number of groups
+abbrev pub IsFrame : FrameM → Type 0
+IsFrame f = (groups : ℕ) × Grouped f groups
+
 -- the byte at a place
 abbrev pub byte_at : FrameM → ℕ → ℕ
 byte_at f k = slice_index f.bytes k

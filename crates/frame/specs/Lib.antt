@@ -5,7 +5,7 @@ pub mod Packet
 pub mod Reading
 pub mod Reserved
 pub mod Room
-pub mod Rooms
+pub mod RoomBack
 pub mod Units
 pub mod Unpacking
 pub mod Word

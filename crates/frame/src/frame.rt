@@ -22,8 +22,8 @@ impl Model for Frame {
     ghost use Rattle.std.specs.Prelude.{◌/◌, length, refl};
     ghost use Rattle.frame.specs.Frame.{FrameM};
     ghost use Rattle.frame.specs.Room.{front, in_room, FrameRoom};
+    ghost use Rattle.frame.specs.RoomBack.{frame_back};
     ghost use Rattle.terms.specs.declared.mark.Mark.TheVariants.{Zero};
-    ghost use Rattle.frame.specs.Rooms.{frame_back};
 
     ghost Value = { FrameM };
 

@@ -14,7 +14,7 @@ pub struct Packet {
 impl Model for Packet {
     ghost use Rattle.std.specs.Prelude.{ℕ, ◌*◌, ◌/◌, List, length, refl, take};
     ghost use Rattle.frame.specs.Room.{in_room, PacketRoom};
-    ghost use Rattle.frame.specs.Rooms.{packet_back};
+    ghost use Rattle.frame.specs.RoomBack.{packet_back};
 
     ghost Value = { List ℕ };
 

@@ -1,7 +1,7 @@
 // The form of a frame: its marks and its fixed bytes.
-ghost use Rattle.std.specs.Prelude.{◌≡◌, ℕ, ◌<◌, ◌≤◌, ◌==◌, not, length, map, position, IfSome};
+ghost use Rattle.std.specs.Prelude.{◌≡◌, ◌<◌, ◌≤◌, ◌==◌, not, length, map, position, IfSome};
 ghost use Rattle.frame.specs.Form.{form_mark, allows, is_synced};
-ghost use Rattle.frame.specs.Frame.{Grouped};
+ghost use Rattle.frame.specs.Frame.{IsFrame};
 ghost use Rattle.frame.specs.Reading.{sync_checked, form_checked};
 ghost use Rattle.frame.specs.Room.{in_room};
 ghost use Rattle.std.specs.List.{range_with_len, enumerate_from};
@@ -17,39 +17,41 @@ use terms::mark::Mark;
 // The byte at the end of both forms.
 pub(super) const END: u8 = 0xFD;
 
-// The mark of a character among so many.
-fn form_mark(kind: Kind, count: usize, character: usize) -> Mark
-    ensures { result ≡ form_mark kind count character }
-{
-    match kind {
-        Kind::Protocol if character != 0 && character != count.saturating_sub(1) => Mark::Data,
-        _ => Mark::Control,
+impl Kind {
+    // The mark of a character among so many.
+    fn mark(self, count: usize, character: usize) -> Mark
+        ensures { result ≡ form_mark self count character }
+    {
+        match self {
+            Kind::Protocol if character != 0 && character != count.saturating_sub(1) => Mark::Data,
+            _ => Mark::Control,
+        }
     }
-}
 
-// The marks of a whole room, as if so many characters went on behind them.
-fn all_marks(kind: Kind, count: usize) -> [Mark; 40]
-    ensures { result ≡ map (form_mark kind count) (range_with_len 0 40) }
-{
-    array::from_fn(|character| form_mark(kind, count, character))
-}
+    // As many marks as a room has, of a frame of so many characters; those behind its own say nothing.
+    fn all_marks(self, count: usize) -> [Mark; 40]
+        ensures { result ≡ map (form_mark self count) (range_with_len 0 40) }
+    {
+        array::from_fn(|character| self.mark(count, character))
+    }
 
-// The marks of so many characters, in room for five groups.
-pub(super) fn form_marks(kind: Kind, count: usize) -> [Mark; 40]
-    requires { count ≤ 40 }
-    ensures { result ≡ in_room 40 Zero (map (form_mark kind count) (range_with_len 0 count)) }
-{
-    room::in_room(Mark::Zero, &all_marks(kind, count)[..count])
-}
+    // The marks of so many characters, in room for five groups.
+    pub(super) fn marks(self, count: usize) -> [Mark; 40]
+        requires { count ≤ 40 }
+        ensures { result ≡ in_room 40 Zero (map (form_mark self count) (range_with_len 0 count)) }
+    {
+        room::in_room(Mark::Zero, &self.all_marks(count)[..count])
+    }
 
-// Whether the form lets a byte stand at a place of a frame of so many bytes.
-fn allows_byte(kind: Kind, size: usize, place: usize, byte: u8) -> bool
-    ensures { result ≡ allows kind size place byte }
-{
-    // A match, not a trait with a type for each form: the kind is known only once a frame is there.
-    match kind {
-        Kind::Protocol => protocol::allows_byte(size, place, byte),
-        Kind::Link => link::allows_byte(place, byte),
+    // Whether the form lets a byte stand at a place of a frame of so many bytes.
+    fn allows(self, size: usize, place: usize, byte: u8) -> bool
+        ensures { result ≡ allows self size place byte }
+    {
+        // A match, not a trait with a type for each form: the kind is known only once a frame is there.
+        match self {
+            Kind::Protocol => protocol::allows_byte(size, place, byte),
+            Kind::Link => link::allows_byte(place, byte),
+        }
     }
 }
 
@@ -57,7 +59,7 @@ impl Frame {
     // The lowest character with a sync error.
     fn lowest_sync(&self) -> Option<usize>
         ensures lowest { result ≡ position (λ m. not (is_synced m)) self.now.marks }
-        ensures shape { (groups : ℕ) × Grouped self.now groups }
+        ensures shape { IsFrame self.now }
     {
         self.marks()
             .iter()
@@ -71,8 +73,10 @@ impl Frame {
     {
         let marks = self.marks();
         let count = marks.len();
-        marks.iter().enumerate().position(|(character, mark)| *mark
-            != form_mark(kind, count, character))
+        marks
+            .iter()
+            .enumerate()
+            .position(|(character, mark)| *mark != kind.mark(count, character))
     }
 
     // The lowest place whose byte the form does not allow.
@@ -84,13 +88,13 @@ impl Frame {
         bytes
             .iter()
             .enumerate()
-            .position(|(place, byte)| !allows_byte(kind, size, place, *byte))
+            .position(|(place, byte)| !kind.allows(size, place, *byte))
     }
 
     #[tactic(auto, using(crate::proofs::Searches::sync_found))]
     pub(super) fn check_sync(&self) -> Result<(), FrameFault>
         ensures checked { result ≡ sync_checked self.now }
-        ensures shape { (groups : ℕ) × Grouped self.now groups }
+        ensures shape { IsFrame self.now }
     {
         self.lowest_sync()
             .map_or(Ok(()), |character| Err(FrameFault::Sync(character)))

@@ -3,11 +3,11 @@ ghost use Rattle.std.specs.Prelude.{◌≡◌, map, Ok};
 ghost use Rattle.std.specs.List.{range_with_len};
 ghost use Rattle.frame.specs.Form.{link_allows, reply_check, link_byte, reply_frame};
 ghost use Rattle.frame.specs.Reading.{reading, reading_as};
-ghost use Rattle.frame.specs.Word.{Words};
+ghost use Rattle.frame.specs.Word.{ReadsPart};
 ghost use Rattle.terms.specs.declared.content.Content.TheVariants.{Reply as ReplyContent};
 ghost use Rattle.frame.specs.declared.frame.Kind.TheVariants.{Link as LinkKind};
 
-use crate::frame::form::{END, form_marks};
+use crate::frame::form::END;
 use crate::frame::{Frame, Kind};
 use crate::room::in_room;
 use crc::link::link_check;
@@ -79,7 +79,7 @@ struct Word {
 }
 
 fn reply_word(part: &[u8]) -> Option<Word>
-    ensures { Words part.now result }
+    ensures { ReadsPart part.now result }
 {
     match part {
         [TAG, kind, id, 0, 0, 0, low, high] => Some(Word {
@@ -102,7 +102,7 @@ impl Frame {
         Frame {
             groups: 1,
             bytes: in_room(0, &reply_bytes(reply)),
-            marks: form_marks(Kind::Link, 8),
+            marks: Kind::Link.marks(8),
         }
     }
 

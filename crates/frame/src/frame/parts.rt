@@ -1,7 +1,7 @@
 // A frame of any bytes and marks, and changes of one of them.
-ghost use Rattle.std.specs.Prelude.{◌≡◌, ℕ, ◌<◌, length, Some, None, MatchResult};
+ghost use Rattle.std.specs.Prelude.{◌≡◌, ◌<◌, length, Some, None, MatchResult};
 ghost use Rattle.frame.specs.Form.{kind_of};
-ghost use Rattle.frame.specs.Frame.{flipped, marked, parts_fault, parted, Grouped};
+ghost use Rattle.frame.specs.Frame.{flipped, marked, parts_fault, parted, Grouped, IsFrame};
 ghost use Rattle.frame.specs.Reading.{Good, Broken};
 
 use crate::frame::link::LEAD;
@@ -28,17 +28,17 @@ impl Frame {
         })
     }
 
-    // One function for this and `marks` would be no plainer than a slice of each.
+    // Not by one function with `marks` and the bytes of a packet: a slice of each field is as plain.
     pub fn bytes(&self) -> &[u8]
         ensures bytes { result.now ≡ self.now.bytes }
-        ensures shape { (groups : ℕ) × Grouped self.now groups }
+        ensures shape { IsFrame self.now }
     {
         &self.bytes[0..128 * self.groups]
     }
 
     pub fn marks(&self) -> &[Mark]
         ensures marks { result.now ≡ self.now.marks }
-        ensures shape { (groups : ℕ) × Grouped self.now groups }
+        ensures shape { IsFrame self.now }
     {
         &self.marks[0..8 * self.groups]
     }
@@ -59,6 +59,7 @@ impl Frame {
         }
     }
 
+    // Place and mask as they are: a struct of the two would only lengthen each call.
     // Xors one byte by a mask; a place outside the frame leaves it as it is. One flipped byte always breaks a good frame.
     pub fn flip(&mut self, place: usize, mask: u8)
         ensures after { self.new ≡ flipped self.old place mask }

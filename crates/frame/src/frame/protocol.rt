@@ -7,7 +7,7 @@ ghost use Rattle.frame.specs.Unpacking.{Unpacks};
 ghost use Rattle.frame.specs.declared.frame.Kind.TheVariants.{Protocol as ProtocolKind};
 ghost use Rattle.terms.specs.declared.content.Content.TheVariants.{Packet as PacketContent};
 
-use crate::frame::form::{END, form_marks};
+use crate::frame::form::END;
 use crate::frame::{Frame, Kind};
 use crate::packet::Packet;
 use crate::room::in_room;
@@ -38,9 +38,8 @@ fn lowest_difference(bytes: &[u8], expected: &[u8]) -> Option<usize>
 }
 
 // Writes the checks and the end into the last fourteen places.
-fn put_trailer(bytes: &mut [u8], checks: &[u8])
-    requires room { 14 ≤ length bytes.old }
-    requires eight { length checks.now ≡ 8 }
+fn put_trailer(bytes: &mut [u8], checks: &[u8; 8])
+    requires { 14 ≤ length bytes.old }
     ensures { bytes.new ≡ take (length bytes.old - 14) bytes.old ++ checks.now ++ replicate 6 0xFD }
 {
     let at = bytes.len() - 14;
@@ -65,7 +64,7 @@ impl Frame {
         Frame {
             groups: size / 128,
             bytes: room,
-            marks: form_marks(Kind::Protocol, size / 16),
+            marks: Kind::Protocol.marks(size / 16),
         }
     }
 

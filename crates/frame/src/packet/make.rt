@@ -58,7 +58,6 @@ impl Packet {
         })
     }
 
-    // As of a frame, a slice of its own room.
     pub fn bytes(&self) -> &[u8]
         ensures bytes { result.now ≡ self.now }
         ensures packet { IsPacket self.now }

@@ -5,7 +5,7 @@ use Rattle.frame.specs.Form.{reply_check}
 use Rattle.frame.specs.Frame.{FrameM, Grouped, byte_at}
 use Rattle.frame.specs.Reading.{form_checked, reply_of, reading_as}
 use Rattle.frame.specs.Room.{front}
-use Rattle.frame.specs.Word.{word_bytes}
+use Rattle.frame.specs.Word.{reply_part}
 use Rattle.frame.specs.declared.frame.Kind.TheVariants.{Link}
 use Rattle.frame.specs.declared.frame.link.Word.{Word}
 use Rattle.frame.proofs.Readings.{link_answer, word_there, named_by, right_is, form_word}
@@ -19,7 +19,7 @@ module _ (groups : ℕ) (bytes : List ℕ) (marks : List Mark) (f : FrameM) (vie
   one = omega (arith, g.bytes_long, g.some)
 
   -- the eight bytes lie in the one group
-  part_is : take 8 (drop 8 bytes) ≡ word_bytes (reply_of f) (byte_at f 14) (byte_at f 15)
+  part_is : take 8 (drop 8 bytes) ≡ reply_part (reply_of f) (byte_at f 14) (byte_at f 15)
   part_is =
       let m : ℕ = 128 * groups - 8 in
       let e : 128 * groups ≡ 8 + m = omega (arith, g.some) in
@@ -28,7 +28,7 @@ module _ (groups : ℕ) (bytes : List ℕ) (marks : List Mark) (f : FrameM) (vie
       ∙ word_there f one form
 
   -- the answer, by whether the check is right
-  answer : (w : Word) (b : Bool) → take 8 (drop 8 bytes) ≡ word_bytes w.reply (w.check % 256) (w.check / 256) → eqb w.check (reply_check w.reply) ≡ b
+  answer : (w : Word) (b : Bool) → take 8 (drop 8 bytes) ≡ reply_part w.reply (w.check % 256) (w.check / 256) → eqb w.check (reply_check w.reply) ≡ b
       → cond b (Ok (ReplyContent w.reply)) (Err (Check 14)) ≡ reading_as Link f
   answer w b is right =
       let same = sym is ∙ part_is in

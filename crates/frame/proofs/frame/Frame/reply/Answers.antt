@@ -13,8 +13,8 @@ pub returns : goal.returns
 unfolding reply_frame
 returns c =
     let whole =
-    made 1 (map (link_byte c.args.reply) (range_with_len 0 128)) c.in_room.result (map (form_mark Link 8) (range_with_len 0 8)) c.form_marks.result
-    (c.in_room.ensures ∙ ap (in_room 640 0) c.reply_bytes.ensures) c.form_marks.ensures
+    made 1 (map (link_byte c.args.reply) (range_with_len 0 128)) c.in_room.result (map (form_mark Link 8) (range_with_len 0 8)) c.marks.result
+    (c.in_room.ensures ∙ ap (in_room 640 0) c.reply_bytes.ensures) c.marks.ensures
     (record {
       some = lit≤ tt;
       few = lit≤ tt;

@@ -9,7 +9,7 @@ use Rattle.frame.proofs.frame.Frame.seal.Goals as goal
 pub invariant_of-result : goal.invariant_of-result
 invariant_of-result c =
     sealed_room c.args.id c.args.packet.now c.bytes-size.ensures.packet _ _ _ _ _ _
-    c.bytes-size.ensures.bytes c.bytes.ensures.bytes c.in_room-room.ensures c.unit_checks-checks.ensures c.put_trailer.ensures c.form_marks.ensures
+    c.bytes-size.ensures.bytes c.bytes.ensures.bytes c.in_room-room.ensures c.unit_checks-checks.ensures c.put_trailer.ensures c.marks.ensures
 
 pub returns : goal.returns
 returns c =
@@ -18,7 +18,7 @@ returns c =
     let is = c.bytes-size.ensures.packet in
     let made =
     sealed_made id p is _ _ _ _ _ _
-    c.bytes-size.ensures.bytes c.bytes.ensures.bytes c.in_room-room.ensures c.unit_checks-checks.ensures c.put_trailer.ensures c.form_marks.ensures in
+    c.bytes-size.ensures.bytes c.bytes.ensures.bytes c.in_room-room.ensures c.unit_checks-checks.ensures c.put_trailer.ensures c.marks.ensures in
     record {
       made = made;
       reads = ap reading made ∙ reads_sealed id p is;

@@ -1,4 +1,4 @@
--- What stands at the front of a room gives the room back.
+-- What stands at the front of a room gives the room back: proofs, which stand here since the models of a packet and a frame name them.
 use Rattle.std.proofs.Common.{◌≡◌, ℕ, ◌-◌, ◌*◌, ◌/◌, ◌≤◌, List, ◌++◌, length, take, replicate, ap, ◌∙◌, sym, arith}
 use Rattle.std.proofs.lemmas.List.{length-take-le, take-append-drop}
 use Rattle.frame.specs.Room.{in_room, Blank, PacketRoom, FrameRoom}
