@@ -6,7 +6,7 @@ ghost use Rattle.accbox.specs.Read.{all_read};
 
 use std::alloc::{AllocError, Global};
 
-// What the parts read as; none if one of them could not be read.
+// What the parts read as; none if one of them could not be read. Not `collect`: into an option it does not say where it fails.
 pub(crate) fn all<T: Drop, I: Iterator<Item = Option<T>>>(
     heap: Global,
     parts: I,

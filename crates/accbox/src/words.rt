@@ -4,7 +4,7 @@ ghost use Rattle.std.specs.Fn.{FnOnceReturnsAt};
 
 use crate::misread::{Misread, Part, Wanted, Why};
 use crate::{hex, marks};
-use std::alloc::Global;
+use std::alloc::{AllocError, Global};
 use terms::mark::Mark;
 
 const BLANKS: [char; 2] = [' ', '\t'];
@@ -90,6 +90,19 @@ impl<'a> Words<'a> {
         read(self.word(part)?).ok_or(Why::Wrong { part, wanted })
     }
 
+    // The same of a list, for which there may be no memory.
+    fn read_list<T: Drop, F: FnOnce(Global, &str) -> Result<Option<Vec<T>>, AllocError>>(
+        &mut self,
+        part: Part,
+        wanted: Wanted,
+        read: F,
+    ) -> Result<Vec<T>, Why>
+        requires { F.IsAlwaysCallable read }
+    {
+        let heap = self.heap;
+        read(heap, self.word(part)?)?.ok_or(Why::Wrong { part, wanted })
+    }
+
     pub(crate) fn number(&mut self, part: Part, most: usize) -> Result<usize, Why>
         ensures { IfOk result (λ n. n ≤ most) }
     {
@@ -107,10 +120,7 @@ impl<'a> Words<'a> {
     }
 
     pub(crate) fn bytes(&mut self, part: Part) -> Result<Vec<u8>, Why> {
-        let heap = self.heap;
-        Ok(self.read(part, Wanted::Bytes, |word| {
-            hex::read_bytes(heap, word).transpose()
-        })??)
+        self.read_list(part, Wanted::Bytes, hex::read_bytes)
     }
 
     pub(crate) fn mark(&mut self, part: Part) -> Result<Mark, Why> {
@@ -118,10 +128,7 @@ impl<'a> Words<'a> {
     }
 
     pub(crate) fn marks(&mut self, part: Part) -> Result<Vec<Mark>, Why> {
-        let heap = self.heap;
-        Ok(self.read(part, Wanted::Marks, |word| {
-            marks::read_marks(heap, word).transpose()
-        })??)
+        self.read_list(part, Wanted::Marks, marks::read_marks)
     }
 
     // Sees that no word is left.

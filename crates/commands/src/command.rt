@@ -1,9 +1,12 @@
 // What a line of a script asks for.
-ghost use Rattle.std.specs.Prelude.{Some};
+ghost use Rattle.std.specs.Prelude.{◌≡◌, Some, None, MatchResult};
+ghost use Rattle.commands.specs.Session.{load_fault, load_bytes};
 ghost use Rattle.commands.specs.Text.{carrier_text};
 
 use carrier::harm::Harm;
+use frame::packet::Packet;
 use std::fmt;
+use terms::fault::PacketFault;
 use terms::mark::Mark;
 use terms::reply::Reply;
 
@@ -30,6 +33,17 @@ pub enum Load {
     Filled { size: usize, fill: u8 },
     // the packet's own bytes
     Bytes(Vec<u8>),
+}
+
+impl Load {
+    pub(crate) fn packet(&self) -> Result<Packet, PacketFault>
+        ensures { MatchResult result (λ p. (load_fault self.now ≡ None) × (p ≡ load_bytes self.now)) (λ f. load_fault self.now ≡ Some f) }
+    {
+        match self {
+            Load::Filled { size, fill } => Packet::filled(*size, *fill),
+            Load::Bytes(bytes) => Packet::new(bytes.as_slice()),
+        }
+    }
 }
 
 // What kind of carrier is made.

@@ -37,16 +37,13 @@ fn unit_1(last: u8) -> Option<u64> {
 }
 
 // Places 8 to 15 of ACK 0 as one number, the first byte highest.
-fn ack_0() -> u64 {
+fn ack_0() -> Option<u64> {
     let ack = Frame::reply(Reply {
         kind: ReplyKind::Ack,
         id: 0,
     });
-    ack.bytes()
-        .iter()
-        .skip(8)
-        .take(8)
-        .fold(0, |value, byte| value << 8 | u64::from(*byte))
+    let word = ack.bytes().get(8..)?.first_chunk()?;
+    Some(u64::from_be_bytes(*word))
 }
 
 fn run_figures() -> [Figure; 5] {
@@ -69,7 +66,7 @@ fn run_figures() -> [Figure; 5] {
         Figure {
             what: "places 8 to 15 of ACK 0",
             expected: 0xA500_0000_0000_AF18,
-            found: Some(ack_0()),
+            found: ack_0(),
         },
         Figure {
             what: "CRC-16/UMTS of 123456789",

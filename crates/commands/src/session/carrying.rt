@@ -22,6 +22,7 @@ fn straight(heap: Global) -> Result<Harming<Straight>, AllocError>
     Harming::new(heap, Straight::new(heap)?)
 }
 
+// As in `frames`, each says by `kept` that the frame stays.
 impl Session {
     // The new carrier takes the place of the one that was there.
     pub(super) fn make_carrier(
@@ -43,9 +44,7 @@ impl Session {
         ensures after { carried self.new ≡ option_map (plan_after harm) (carried self.old) }
         ensures kept { self.new.frame ≡ self.old.frame }
     {
-        let Some(carrier) = &mut self.carrier else {
-            return Err(Trouble::NoCarrier);
-        };
+        let carrier = self.carrier.as_mut().ok_or(Trouble::NoCarrier)?;
         match carrier.plan(harm) {
             Ok(harms) => Ok(Answer::Planned { harms }),
             Err(fault) => Ok(Answer::Refused(fault.refusal())),
@@ -59,9 +58,7 @@ impl Session {
         ensures kept { self.new.frame ≡ self.old.frame }
     {
         let frame = self.current()?;
-        let Some(carrier) = &mut self.carrier else {
-            return Err(Trouble::NoCarrier);
-        };
+        let carrier = self.carrier.as_mut().ok_or(Trouble::NoCarrier)?;
         match carrier.put(&frame) {
             Ok(()) => Ok(Answer::Put),
             Err(fault) => Ok(Answer::Refused(fault.refusal())),
@@ -74,9 +71,7 @@ impl Session {
         ensures after { carried self.new ≡ option_map take_after (carried self.old) }
         ensures frame { self.new.frame ≡ take_frame (carried self.old) self.old.frame }
     {
-        let Some(carrier) = &mut self.carrier else {
-            return Err(Trouble::NoCarrier);
-        };
+        let carrier = self.carrier.as_mut().ok_or(Trouble::NoCarrier)?;
         let Some(taken) = carrier.take() else {
             return Ok(Answer::Refused(CarrierFault::NoneWaiting.refusal()));
         };

@@ -23,15 +23,6 @@ use terms::reply::Reply;
 // What a buffer holds before a packet is unpacked into it.
 const UNTOUCHED: u8 = 0xEE;
 
-fn packet(load: &Load) -> Result<Packet, PacketFault>
-    ensures { MatchResult result (λ p. (load_fault load.now ≡ None) × (p ≡ load_bytes load.now)) (λ f. load_fault load.now ≡ Some f) }
-{
-    match load {
-        Load::Filled { size, fill } => Packet::filled(*size, *fill),
-        Load::Bytes(bytes) => Packet::new(bytes.as_slice()),
-    }
-}
-
 // Not a `From`: a trouble also says how many there were.
 fn shape_trouble(fault: ShapeFault, bytes: usize, marks: usize) -> Trouble
     ensures { result ≡ shape_trouble fault bytes marks }
@@ -55,7 +46,7 @@ fn unpacked(res: Result<Content, UnpackFault>, buffer: Vec<u8>) -> Answer
     }
 }
 
-// Methods of the whole session, so each says by `kept` that the carrier stays.
+// Methods of the whole session, so each says by `kept` that the carrier stays: the field as a parameter would be no plainer.
 impl Session {
     pub(super) fn current(&self) -> Result<Frame, Trouble>
         ensures { MatchResult result (λ f. self.now.frame ≡ Some f) (λ t. (self.now.frame ≡ None) × (t ≡ NoFrame)) }
@@ -69,7 +60,7 @@ impl Session {
         ensures after { self.new.frame ≡ unless (load_fault load.now) (sealed id (load_bytes load.now)) self.old.frame }
         ensures kept { self.new.carrier ≡ self.old.carrier }
     {
-        match packet(load) {
+        match load.packet() {
             Ok(packet) => {
                 self.frame = Some(Frame::seal(&packet, id));
                 Answer::Sealed {
@@ -111,9 +102,7 @@ impl Session {
         ensures after { self.new.frame ≡ option_map (λ f. flipped f place mask) self.old.frame }
         ensures kept { self.new.carrier ≡ self.old.carrier }
     {
-        let Some(frame) = &mut self.frame else {
-            return Err(Trouble::NoFrame);
-        };
+        let frame = self.frame.as_mut().ok_or(Trouble::NoFrame)?;
         frame.flip(place, mask);
         if place < frame.bytes().len() {
             Ok(Answer::Flipped { place, mask })
@@ -127,9 +116,7 @@ impl Session {
         ensures after { self.new.frame ≡ option_map (λ f. marked f character mark) self.old.frame }
         ensures kept { self.new.carrier ≡ self.old.carrier }
     {
-        let Some(frame) = &mut self.frame else {
-            return Err(Trouble::NoFrame);
-        };
+        let frame = self.frame.as_mut().ok_or(Trouble::NoFrame)?;
         frame.set_mark(character, mark);
         if character < frame.marks().len() {
             Ok(Answer::Marked { character, mark })
