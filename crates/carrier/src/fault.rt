@@ -1,7 +1,8 @@
 // What a carrier refuses.
+ghost use Rattle.std.specs.Prelude.{◌≡◌};
 ghost use Rattle.carrier.specs.Fault.{carrier_refusal, plan_refusal};
 
-use terms::fault::{Layer, Refusal, Shown};
+use terms::fault::{Layer, Refusal};
 
 #[derive(Clone, Copy, PartialEq, Eq, Debug)]
 pub enum CarrierFault {
@@ -20,11 +21,11 @@ pub enum PlanFault {
     Full,
 }
 
-impl Shown for CarrierFault {
-    ghost shown = { carrier_refusal };
+impl From<CarrierFault> for Refusal {
+    ghost from_gives = { λ f r. r ≡ carrier_refusal f };
 
-    fn refusal(&self) -> Refusal {
-        let number = match self {
+    fn from(fault: CarrierFault) -> Refusal {
+        let number = match fault {
             CarrierFault::Full => 5,
             CarrierFault::NoneWaiting => 6,
         };
@@ -36,11 +37,11 @@ impl Shown for CarrierFault {
     }
 }
 
-impl Shown for PlanFault {
-    ghost shown = { plan_refusal };
+impl From<PlanFault> for Refusal {
+    ghost from_gives = { λ f r. r ≡ plan_refusal f };
 
-    fn refusal(&self) -> Refusal {
-        let number = match self {
+    fn from(fault: PlanFault) -> Refusal {
+        let number = match fault {
             PlanFault::Mask => 18,
             PlanFault::Full => 19,
         };

@@ -1,7 +1,6 @@
 // What is refused, and what a panel shows of it.
 ghost use Rattle.std.specs.Prelude.{◌≡◌, Some};
 ghost use Rattle.terms.specs.Fault.{packet_refusal, frame_refusal, host_refusal, unpack_refusal};
-ghost use Rattle.terms.specs.declared.fault.Refusal.{Refusal as Panel};
 ghost use Rattle.terms.specs.declared.fault.UnpackFault.TheVariants.{Frame as ByFrame, Host as ByHost};
 ghost use Rattle.terms.specs.Text.{layer_text, refusal_text};
 
@@ -19,7 +18,7 @@ pub enum Layer {
     Setting,
 }
 
-// A refusal as a panel shows it.
+// A refusal as a panel shows it: each fault that a panel can show becomes one.
 #[derive(Clone, Copy, PartialEq, Eq, Debug)]
 pub struct Refusal {
     // a number, since a panel shows numbers: code matches the enums below
@@ -50,15 +49,6 @@ impl fmt::Display for Refusal {
     fn fmt<W: fmt::Write>(&self, f: &mut fmt::Formatter<W>) -> fmt::Result {
         write!(f, "{} {} {}", self.number, self.layer, self.place)
     }
-}
-
-// A fault that a panel can show.
-pub trait Shown {
-    // the number, layer and place of each fault
-    ghost shown: { Self → Panel };
-
-    fn refusal(&self) -> Refusal
-        ensures { result ≡ shown self.now };
 }
 
 // Parts that make no frame: no panel shows it.
@@ -114,11 +104,11 @@ impl From<HostFault> for UnpackFault {
     }
 }
 
-impl Shown for PacketFault {
-    ghost shown = { packet_refusal };
+impl From<PacketFault> for Refusal {
+    ghost from_gives = { λ f r. r ≡ packet_refusal f };
 
-    fn refusal(&self) -> Refusal {
-        let (number, place) = match *self {
+    fn from(fault: PacketFault) -> Refusal {
+        let (number, place) = match fault {
             PacketFault::Length => (1, 0),
             PacketFault::Reserved(place) => (2, place),
         };
@@ -130,11 +120,11 @@ impl Shown for PacketFault {
     }
 }
 
-impl Shown for FrameFault {
-    ghost shown = { frame_refusal };
+impl From<FrameFault> for Refusal {
+    ghost from_gives = { λ f r. r ≡ frame_refusal f };
 
-    fn refusal(&self) -> Refusal {
-        let (number, layer, place) = match *self {
+    fn from(fault: FrameFault) -> Refusal {
+        let (number, layer, place) = match fault {
             FrameFault::Sync(character) => (7, Layer::Frame, character),
             FrameFault::Form(place) => (8, Layer::Frame, place),
             FrameFault::Check(place) => (9, Layer::Check, place),
@@ -147,25 +137,25 @@ impl Shown for FrameFault {
     }
 }
 
-impl Shown for HostFault {
-    ghost shown = { host_refusal };
+impl From<HostFault> for Refusal {
+    ghost from_gives = { λ f r. r ≡ host_refusal f };
 
-    fn refusal(&self) -> Refusal {
+    fn from(fault: HostFault) -> Refusal {
         Refusal {
             number: 11,
             layer: Layer::Host,
-            place: self.needed,
+            place: fault.needed,
         }
     }
 }
 
-impl Shown for UnpackFault {
-    ghost shown = { unpack_refusal };
+impl From<UnpackFault> for Refusal {
+    ghost from_gives = { λ f r. r ≡ unpack_refusal f };
 
-    fn refusal(&self) -> Refusal {
-        match self {
-            UnpackFault::Frame(f) => f.refusal(),
-            UnpackFault::Host(f) => f.refusal(),
+    fn from(fault: UnpackFault) -> Refusal {
+        match fault {
+            UnpackFault::Frame(f) => Refusal::from(f),
+            UnpackFault::Host(f) => Refusal::from(f),
         }
     }
 }

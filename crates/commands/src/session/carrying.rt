@@ -14,7 +14,6 @@ use carrier::harm::Harm;
 use carrier::harming::Harming;
 use carrier::straight::Straight;
 use std::alloc::{AllocError, Global};
-use terms::fault::Shown;
 
 fn straight(heap: Global) -> Result<Harming<Straight>, AllocError>
     ensures { IfOk result (λ c. carrying c ≡ unused) }
@@ -47,7 +46,7 @@ impl Session {
         let carrier = self.carrier.as_mut().ok_or(Trouble::NoCarrier)?;
         match carrier.plan(harm) {
             Ok(harms) => Ok(Answer::Planned { harms }),
-            Err(fault) => Ok(Answer::Refused(fault.refusal())),
+            Err(fault) => Ok(Answer::Refused(fault.into())),
         }
     }
 
@@ -61,7 +60,7 @@ impl Session {
         let carrier = self.carrier.as_mut().ok_or(Trouble::NoCarrier)?;
         match carrier.put(&frame) {
             Ok(()) => Ok(Answer::Put),
-            Err(fault) => Ok(Answer::Refused(fault.refusal())),
+            Err(fault) => Ok(Answer::Refused(fault.into())),
         }
     }
 
@@ -73,7 +72,7 @@ impl Session {
     {
         let carrier = self.carrier.as_mut().ok_or(Trouble::NoCarrier)?;
         let Some(taken) = carrier.take() else {
-            return Ok(Answer::Refused(CarrierFault::NoneWaiting.refusal()));
+            return Ok(Answer::Refused(CarrierFault::NoneWaiting.into()));
         };
         self.frame = Some(taken);
         Ok(Answer::Taken)

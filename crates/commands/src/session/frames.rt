@@ -16,7 +16,7 @@ use frame::frame::Frame;
 use frame::packet::Packet;
 use std::alloc::Global;
 use terms::content::Content;
-use terms::fault::{PacketFault, ShapeFault, Shown, UnpackFault};
+use terms::fault::{PacketFault, ShapeFault, UnpackFault};
 use terms::mark::Mark;
 use terms::reply::Reply;
 
@@ -42,7 +42,7 @@ fn unpacked(res: Result<Content, UnpackFault>, buffer: Vec<u8>) -> Answer
     match res {
         Ok(Content::Packet { size, .. }) => Answer::Unpacked { size, buffer },
         Ok(Content::Reply(_)) => Answer::NoPacket,
-        Err(fault) => Answer::Refused(fault.refusal()),
+        Err(fault) => Answer::Refused(fault.into()),
     }
 }
 
@@ -68,7 +68,7 @@ impl Session {
                     size: packet.bytes().len(),
                 }
             }
-            Err(fault) => Answer::Refused(fault.refusal()),
+            Err(fault) => Answer::Refused(fault.into()),
         }
     }
 
@@ -130,7 +130,7 @@ impl Session {
     {
         match self.current()?.read() {
             Ok(content) => Ok(Answer::Good(content)),
-            Err(fault) => Ok(Answer::Refused(fault.refusal())),
+            Err(fault) => Ok(Answer::Refused(fault.into())),
         }
     }
 
