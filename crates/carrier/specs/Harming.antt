@@ -1,8 +1,8 @@
 -- The harming carrier: its plan, and what it hands to the carrier below.
 use Rattle.std.specs.Prelude.{◌≡◌, ℕ, ◌+◌, if◌then◌else◌, List, [], ◌∷◌, ◌++◌, length, drop, Some, None, Ok, Err, Option, Result, nat_le}
-use Rattle.std.specs.VecDeque.{deque_items}
 use Rattle.frame.specs.Frame.{FrameM}
 use Rattle.carrier.specs.Harm.{harmed, harms}
+use Rattle.carrier.specs.Queue.{queue_items}
 use Rattle.carrier.specs.declared.fault.PlanFault.{PlanFault}
 use Rattle.carrier.specs.declared.fault.PlanFault.TheVariants.{Mask, Full}
 use Rattle.carrier.specs.declared.harm.Harm.{Harm}
@@ -11,7 +11,7 @@ use Rattle.carrier.specs.declared.harming.Harming.{Harming}
 
 -- what is planned, the next first
 abbrev pub plan_of : {C : Type 0} → Harming C → List Harm
-plan_of s = deque_items s.plan
+plan_of s = queue_items s.plan
 
 -- why a harm is not planned: first a mask of zero, then a plan of 64
 abbrev pub plan_fault : List Harm → Harm → Option PlanFault

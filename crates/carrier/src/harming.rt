@@ -1,20 +1,18 @@
 // A carrier that harms frames by a plan, on their way into another carrier.
-ghost use Rattle.std.specs.Prelude.{◌≡◌, ◌≤◌, true};
-ghost use Rattle.std.specs.VecDeque.{deque_len, deque_capacity};
+ghost use Rattle.std.specs.Prelude.{◌≡◌, true};
 ghost use Rattle.carrier.specs.Harm.{all_harm};
+ghost use Rattle.carrier.specs.Queue.{queue_items};
 
 mod carries;
 mod plan;
 
 use crate::harm::Harm;
-use std::collections::VecDeque;
+use crate::queue::Queue;
 
-// Without a model, by which "as it was" would say less of the queue than its items.
+// No model: a refused put has to leave the whole queue as it was, not its items alone.
 #[derive(Drop)]
 pub struct Harming<C> {
     inner: C,
-    plan: VecDeque<Harm>,
-    ghost short: { deque_len plan ≤ 64 },
-    ghost room: { 64 ≤ deque_capacity plan },
-    ghost harms: { all_harm plan.items ≡ true },
+    plan: Queue<Harm, 64>,
+    ghost harms: { all_harm (queue_items plan) ≡ true },
 }

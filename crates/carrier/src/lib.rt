@@ -5,4 +5,5 @@ pub mod carrier;
 pub mod fault;
 pub mod harm;
 pub mod harming;
+mod queue;
 pub mod straight;

@@ -1,16 +1,11 @@
 // A carrier that keeps up to eight frames and harms none.
-ghost use Rattle.std.specs.Prelude.{◌≤◌};
-ghost use Rattle.std.specs.VecDeque.{deque_len, deque_capacity};
-
 mod carries;
 
+use crate::queue::Queue;
 use frame::frame::Frame;
-use std::collections::VecDeque;
 
-// Without a model, by which "as it was" would say less of the queue than its items.
+// No model: a refused put has to leave the whole queue as it was, not its items alone.
 #[derive(Drop)]
 pub struct Straight {
-    queue: VecDeque<Frame>,
-    ghost short: { deque_len queue ≤ 8 },
-    ghost room: { 8 ≤ deque_capacity queue },
+    queue: Queue<Frame, 8>,
 }

@@ -6,17 +6,15 @@ ghost use Rattle.carrier.specs.Harming.{plan_of, planning, planned, next_harm};
 use crate::fault::PlanFault;
 use crate::harm::Harm;
 use crate::harming::Harming;
+use crate::queue::Queue;
 use std::alloc::{AllocError, Global};
-use std::collections::VecDeque;
-
-const ROOM: usize = 64;
 
 impl<C: Drop> Harming<C> {
     // Stands on a carrier, whatever waits in it, with an empty plan.
     pub fn new(heap: Global, inner: C) -> Result<Harming<C>, AllocError>
         ensures { IfOk result (λ s. (s.inner ≡ inner) × (plan_of s ≡ [])) }
     {
-        let plan = VecDeque::with_capacity(heap, ROOM)?;
+        let plan = Queue::new(heap)?;
         Ok(Harming { inner, plan })
     }
 }
@@ -31,10 +29,10 @@ impl<C> Harming<C> {
         if !harm.is_allowed() {
             return Err(PlanFault::Mask);
         }
-        if ROOM <= self.plan.len() {
+        if self.plan.is_full() {
             return Err(PlanFault::Full);
         }
-        self.plan.push_back_reserved(harm);
+        self.plan.push(harm);
         Ok(self.plan.len())
     }
 
@@ -45,6 +43,6 @@ impl<C> Harming<C> {
         ensures used { plan_of self.new ≡ drop 1 (plan_of self.old) }
         ensures below { self.new.inner ≡ self.old.inner }
     {
-        self.plan.remove(0).unwrap_or(Harm::Pass)
+        self.plan.pop().unwrap_or(Harm::Pass)
     }
 }

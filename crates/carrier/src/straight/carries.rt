@@ -5,18 +5,16 @@ ghost use Rattle.carrier.specs.Straight.{straight_waiting, straight_full};
 
 use crate::carrier::Carrier;
 use crate::fault::CarrierFault;
+use crate::queue::Queue;
 use crate::straight::Straight;
 use frame::frame::Frame;
 use std::alloc::{AllocError, Global};
-use std::collections::VecDeque;
-
-const ROOM: usize = 8;
 
 impl Straight {
     pub fn new(heap: Global) -> Result<Straight, AllocError>
         ensures { IfOk result (λ s. straight_waiting s ≡ []) }
     {
-        let queue = VecDeque::with_capacity(heap, ROOM)?;
+        let queue = Queue::new(heap)?;
         Ok(Straight { queue })
     }
 }
@@ -31,7 +29,7 @@ impl Carrier for Straight {
     ghost empty = { λ _. refl };
 
     fn is_full(&self, _groups: usize) -> bool {
-        ROOM <= self.queue.len()
+        self.queue.is_full()
     }
 
     fn put(&mut self, frame: &Frame) -> Result<(), CarrierFault>
@@ -41,11 +39,11 @@ impl Carrier for Straight {
         if self.is_full(frame.groups()) {
             return Err(CarrierFault::Full);
         }
-        self.queue.push_back_reserved(*frame);
+        self.queue.push(*frame);
         Ok(())
     }
 
     fn take(&mut self) -> Option<Frame> {
-        self.queue.remove(0)
+        self.queue.pop()
     }
 }
