@@ -11,6 +11,7 @@ const LARGEST_BUFFER: usize = 1048576;
 fn load(words: &mut Words) -> Result<Load, Why> {
     let part = Part::Length;
     let wanted = Wanted::Length;
+    // Not by `read`: other words follow each answer.
     let word = words.word(part)?;
     if word == "hex" {
         return Ok(Load::Bytes(words.bytes(Part::PacketBytes)?));

@@ -8,8 +8,8 @@ mod read;
 use std::marker::Model;
 use terms::mark::Mark;
 
-// Fixed memory, as a device has it: room for five groups, blank behind the frame's own. The bytes lie beside one another, and so do the marks, since
-// `bytes` and `marks` lend each as one slice.
+// Fixed memory, as a device has it, and copied as it is: room for five groups, blank behind the frame's own.
+// Bytes apart from marks, since `bytes` and `marks` lend each as one slice.
 #[derive(Clone, Copy)]
 pub struct Frame {
     groups: usize,

@@ -3,7 +3,7 @@ mod make;
 
 use std::marker::Model;
 
-// Fixed memory, as a device has it: room for five groups, zero behind the packet's own.
+// Fixed memory, as a device has it, and copied as it is: room for five groups, zero behind the packet's own.
 #[derive(Clone, Copy)]
 pub struct Packet {
     groups: usize,

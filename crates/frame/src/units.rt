@@ -14,7 +14,7 @@ fn unit_check(bytes: &[u8], unit: usize) -> u8
     ensures { result ≡ unit_check bytes.now unit }
 {
     let mut check = UnitCheck::new();
-    // By the number of the group, since its place in the frame says what counts.
+    // By the number of the group: its place in the frame says what counts, and numbered chunks would be no plainer.
     for g in 0..bytes.len() / 128 {
         let at = 128 * g + 16 * unit;
         let lead = if at == 0 { 1 } else { 0 };

@@ -59,8 +59,8 @@ impl Frame {
         }
     }
 
-    // Place and mask as they are: a struct of the two would only lengthen each call.
     // Xors one byte by a mask; a place outside the frame leaves it as it is. One flipped byte always breaks a good frame.
+    // Place and mask stay apart: a struct of the two would only lengthen each call.
     pub fn flip(&mut self, place: usize, mask: u8)
         ensures after { self.new ≡ flipped self.old place mask }
         ensures breaks { Good self.old → place < length self.old.bytes → 0 < mask → Broken self.new }
@@ -70,7 +70,7 @@ impl Frame {
         }
     }
 
-    // Puts another mark on a character; one outside the frame leaves it as it is.
+    // Puts another mark on a character; one outside the frame leaves it as it is. The two stay apart, as in `flip`.
     pub fn set_mark(&mut self, character: usize, mark: Mark)
         ensures { self.new ≡ marked self.old character mark }
     {
