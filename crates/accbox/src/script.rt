@@ -22,7 +22,7 @@ pub(crate) enum Stop<'a> {
 }
 
 impl<'a> From<Misread<'a>> for LineFault<'a> {
-    fn from(misread: Misread<'a>) -> Self {
+    fn from(misread: Misread<'a>) -> LineFault<'a> {
         LineFault::Misread(misread)
     }
 }
