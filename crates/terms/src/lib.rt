@@ -5,3 +5,4 @@ pub mod content;
 pub mod fault;
 pub mod mark;
 pub mod reply;
+pub mod unknown;

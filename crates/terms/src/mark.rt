@@ -3,6 +3,7 @@ ghost use Rattle.std.specs.Prelude.{◌≡◌, Some, decimal};
 ghost use Rattle.std.specs.Option.{ok_or};
 ghost use Rattle.terms.specs.Mark.{mark_number, mark_of};
 
+use crate::unknown::Unknown;
 use std::fmt;
 
 // 1 is data and 2 control; 0 and 3 are sync errors.
@@ -13,10 +14,6 @@ pub enum Mark {
     Control,
     Three,
 }
-
-// A number that no mark has.
-#[derive(Clone, Copy, PartialEq, Eq, Debug)]
-pub struct UnknownMark(pub u8);
 
 impl From<Mark> for u8 {
     ghost from_gives = { λ m r. r ≡ mark_number m };
@@ -32,17 +29,17 @@ impl From<Mark> for u8 {
 }
 
 impl TryFrom<u8> for Mark {
-    type Error = UnknownMark;
+    type Error = Unknown;
 
     ghost try_from_gives = { λ n r. r ≡ ok_or (mark_of n) (record { 0 = n }) };
 
-    fn try_from(number: u8) -> Result<Mark, UnknownMark> {
+    fn try_from(number: u8) -> Result<Mark, Unknown> {
         match number {
             0 => Ok(Mark::Zero),
             1 => Ok(Mark::Data),
             2 => Ok(Mark::Control),
             3 => Ok(Mark::Three),
-            _ => Err(UnknownMark(number)),
+            _ => Err(Unknown(number)),
         }
     }
 }

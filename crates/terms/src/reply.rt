@@ -4,6 +4,7 @@ ghost use Rattle.std.specs.Option.{ok_or};
 ghost use Rattle.terms.specs.Reply.{kind_byte, kind_of_byte};
 ghost use Rattle.terms.specs.Text.{kind_text, reply_text};
 
+use crate::unknown::Unknown;
 use std::fmt;
 
 #[derive(Clone, Copy, PartialEq, Eq, Debug)]
@@ -11,10 +12,6 @@ pub enum ReplyKind {
     Ack,
     Nak,
 }
-
-// A byte that no kind of reply has.
-#[derive(Clone, Copy, PartialEq, Eq, Debug)]
-pub struct UnknownKind(pub u8);
 
 #[derive(Clone, Copy, PartialEq, Eq, Debug)]
 pub struct Reply {
@@ -34,15 +31,15 @@ impl From<ReplyKind> for u8 {
 }
 
 impl TryFrom<u8> for ReplyKind {
-    type Error = UnknownKind;
+    type Error = Unknown;
 
     ghost try_from_gives = { λ b r. r ≡ ok_or (kind_of_byte b) (record { 0 = b }) };
 
-    fn try_from(byte: u8) -> Result<ReplyKind, UnknownKind> {
+    fn try_from(byte: u8) -> Result<ReplyKind, Unknown> {
         match byte {
             0x00 => Ok(ReplyKind::Ack),
             0x80 => Ok(ReplyKind::Nak),
-            _ => Err(UnknownKind(byte)),
+            _ => Err(Unknown(byte)),
         }
     }
 }
