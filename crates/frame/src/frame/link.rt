@@ -44,23 +44,32 @@ fn reply_check(reply: Reply) -> u16
     link_check(&[TAG, u8::from(reply.kind), reply.id, 0, 0, 0])
 }
 
-// The byte at a place of the link frame of a reply with this check.
-#[tactic(auto, unfolding(crate::specs::Form::link_byte))]
-fn link_byte(reply: Reply, check: u16, place: usize) -> u8
-    requires { check ≡ reply_check reply }
-    ensures { result ≡ link_byte reply place }
-{
-    let [low, high] = check.to_le_bytes();
-    match place {
-        0..=7 => LEAD,
-        8 => TAG,
-        9 => u8::from(reply.kind),
-        10 => reply.id,
-        11..=13 => 0,
-        14 => low,
-        15 => high,
-        16..=23 => END,
-        _ => 0,
+// What the eight bytes of a reply say.
+#[derive(Clone, Copy)]
+struct Word {
+    reply: Reply,
+    check: u16,
+}
+
+impl Word {
+    // The byte at a place of the link frame of a reply with its own check.
+    #[tactic(auto, unfolding(crate::specs::Form::link_byte))]
+    fn byte(self, place: usize) -> u8
+        requires { self.check ≡ reply_check self.reply }
+        ensures { result ≡ link_byte self.reply place }
+    {
+        let [low, high] = self.check.to_le_bytes();
+        match place {
+            0..=7 => LEAD,
+            8 => TAG,
+            9 => u8::from(self.reply.kind),
+            10 => self.reply.id,
+            11..=13 => 0,
+            14 => low,
+            15 => high,
+            16..=23 => END,
+            _ => 0,
+        }
     }
 }
 
@@ -68,14 +77,8 @@ fn reply_bytes(reply: Reply) -> [u8; 128]
     ensures { result ≡ map (link_byte reply) (range_with_len 0 128) }
 {
     let check = reply_check(reply);
-    array::from_fn(|place| link_byte(reply, check, place))
-}
-
-// What the eight bytes of a reply say.
-#[derive(Clone, Copy)]
-struct Word {
-    reply: Reply,
-    check: u16,
+    let word = Word { reply, check };
+    array::from_fn(|place| word.byte(place))
 }
 
 fn reply_word(part: &[u8]) -> Option<Word>
