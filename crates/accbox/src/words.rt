@@ -77,7 +77,7 @@ impl<'a> Words<'a> {
         self.next().ok_or(Why::Missing(part))
     }
 
-    // What the next word says; it is wrong where `read` gives none.
+    // What the next word says; it is wrong where `read` gives none. Part and wanted stay apart: a struct of the two would only lengthen each call.
     pub(crate) fn read<T, F: FnOnce(&str) -> Option<T>>(
         &mut self,
         part: Part,

@@ -13,7 +13,7 @@ use carrier::straight::Straight;
 use frame::frame::Frame;
 use std::alloc::Global;
 
-// Without a model, by which "as it was" would say less of the carrier than what waits and what is planned.
+// No model: by one, "as it was" would say no more of the carrier than what waits and what is planned.
 #[derive(Drop)]
 pub struct Session {
     frame: Option<Frame>,

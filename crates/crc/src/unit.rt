@@ -36,6 +36,7 @@ impl UnitCheck {
     pub fn feed_zeros(&mut self, count: usize)
         ensures { self.new.state ≡ run_of 8 0xA1 self.old.state (replicate count 0) }
     {
+        // As often as asked, with no item: a chain would be no plainer.
         for _ in 0..count {
             self.feed(&[0]);
         }

@@ -11,7 +11,7 @@ pub(crate) fn is_whole(size: usize) -> bool
     size % 128 == 0 && 128 <= size && size <= 640
 }
 
-// Whether a place of a packet of so many bytes is reserved.
+// Whether a place of a packet of so many bytes is reserved. Size and place stay apart, here and in the forms: a struct of the two would only lengthen each call.
 #[tactic(auto, unfolding(crate::specs::Reserved::reserved))]
 pub(crate) fn is_reserved(size: usize, place: usize) -> bool
     ensures { result ≡ reserved size place }

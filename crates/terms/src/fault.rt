@@ -21,7 +21,7 @@ pub enum Layer {
 // A refusal as a panel shows it: each fault that a panel can show becomes one.
 #[derive(Clone, Copy, PartialEq, Eq, Debug)]
 pub struct Refusal {
-    // a number, since a panel shows numbers: code matches the enums below
+    // a number, since a panel shows numbers: code matches the faults themselves
     pub number: u8,
     pub layer: Layer,
     pub place: usize,

@@ -21,7 +21,7 @@ fn straight(heap: Global) -> Result<Harming<Straight>, AllocError>
     Harming::new(heap, Straight::new(heap)?)
 }
 
-// As in `frames`, each says by `kept` that the frame stays.
+// As in `frames`, those that leave the frame say so by `kept`.
 impl Session {
     // The new carrier takes the place of the one that was there.
     pub(super) fn make_carrier(

@@ -13,10 +13,9 @@ use crate::command::Load;
 use crate::session::Session;
 use crate::trouble::Trouble;
 use frame::frame::Frame;
-use frame::packet::Packet;
 use std::alloc::Global;
 use terms::content::Content;
-use terms::fault::{PacketFault, ShapeFault, UnpackFault};
+use terms::fault::{ShapeFault, UnpackFault};
 use terms::mark::Mark;
 use terms::reply::Reply;
 
@@ -36,6 +35,7 @@ fn shape_trouble(fault: ShapeFault, bytes: usize, marks: usize) -> Trouble
     }
 }
 
+// Not a `From`: the answer also shows the buffer.
 fn unpacked(res: Result<Content, UnpackFault>, buffer: Vec<u8>) -> Answer
     ensures { result ≡ unpack_answer res buffer }
 {
@@ -46,7 +46,8 @@ fn unpacked(res: Result<Content, UnpackFault>, buffer: Vec<u8>) -> Answer
     }
 }
 
-// Methods of the whole session, so each says by `kept` that the carrier stays: the field as a parameter would be no plainer.
+// Methods of the whole session, so those that change it say by `kept` that the carrier stays: the field as a parameter would be no plainer. `flip` and `mark` stay
+// apart, since they call, compare and answer other things.
 impl Session {
     pub(super) fn current(&self) -> Result<Frame, Trouble>
         ensures { MatchResult result (λ f. self.now.frame ≡ Some f) (λ t. (self.now.frame ≡ None) × (t ≡ NoFrame)) }

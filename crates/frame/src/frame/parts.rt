@@ -11,7 +11,7 @@ use terms::fault::ShapeFault;
 use terms::mark::Mark;
 
 impl Frame {
-    // The frame of these bytes and marks, good or broken.
+    // The frame of these bytes and marks, good or broken. They come apart from outside; a struct of the two is the frame.
     pub fn from_parts(bytes: &[u8], marks: &[Mark]) -> Result<Frame, ShapeFault>
         ensures { MatchResult result (λ f. (parts_fault (length bytes.now) (length marks.now) ≡ None) × (f ≡ parted bytes.now marks.now)) (λ e. parts_fault (length bytes.now) (length marks.now) ≡ Some e) }
     {
@@ -28,7 +28,8 @@ impl Frame {
         })
     }
 
-    // Not by one function with `marks` and the bytes of a packet: a slice of each field is as plain.
+    // Not by one function with `marks` and the bytes of a packet: a slice of each field is as plain. `shape` stands in four contracts, since clauses
+    // cannot see the invariant of a model.
     pub fn bytes(&self) -> &[u8]
         ensures bytes { result.now ≡ self.now.bytes }
         ensures shape { IsFrame self.now }

@@ -15,7 +15,7 @@ impl Frame {
         ensures says { Says self.now result }
     {
         self.check_sync()?;
-        // A match, not a trait with a type for each form, as above in `Kind::allows`.
+        // A match, as in `Kind::allows`: the kind is known only once a frame is there.
         match self.kind() {
             Kind::Protocol => self.read_protocol(),
             Kind::Link => self.read_link(),

@@ -58,6 +58,7 @@ impl Packet {
         })
     }
 
+    // As `Frame::bytes`: one function for both would be no plainer.
     pub fn bytes(&self) -> &[u8]
         ensures bytes { result.now ≡ self.now }
         ensures packet { IsPacket self.now }
