@@ -11,6 +11,7 @@ use carrier::carrier::Carrier;
 
 // The counts of the worked run in the direction of one near end. Until the calls of an end carry it themselves, the law stands here: every run of calls
 // from a fresh pair is faithful, over every two carriers; and the worked run is one of them.
+#[tactic(auto, using(crate::proofs::EveryRun::every_run, crate::proofs::WorkedRun::worked_runs))]
 pub fn worked_counts<C: Carrier, D: Carrier>(near: Side) -> Counts
     ensures law { Law C.Carrier.full D.Carrier.full fresh_pair }
     ensures run { Run C.Carrier.full D.Carrier.full fresh_pair worked worked_pair }
