@@ -13,6 +13,10 @@ use Rattle.carrier.specs.declared.harming.Harming.{Harming}
 abbrev pub plan_of : {C : Type 0} → Harming C → List Harm
 plan_of s = queue_items s.plan
 
+-- the carrier below
+abbrev pub carrier_below : {C : Type 0} → Harming C → C
+carrier_below s = s.inner
+
 -- why a harm is not planned: first a mask of zero, then a plan of 64
 abbrev pub plan_fault : List Harm → Harm → Option PlanFault
 plan_fault plan harm = if harms harm then (if nat_le 64 (length plan) then Some Full else None) else Some Mask
@@ -48,4 +52,4 @@ HandedTo adds old (Some f) new = adds old f new
 -- a put uses up the oldest harm, and hands the carrier below what that makes of the frame
 pub record Handed {C : Type 0} (adds : C → FrameM → C → Type 0) (old : Harming C) (f : FrameM) (new : Harming C) : Type 0 where
   pub used : plan_of new ≡ drop 1 (plan_of old)
-  pub handed : HandedTo adds old.inner (harmed (next_harm (plan_of old)) f) new.inner
+  pub handed : HandedTo adds (carrier_below old) (harmed (next_harm (plan_of old)) f) (carrier_below new)

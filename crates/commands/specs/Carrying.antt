@@ -5,7 +5,7 @@ use Rattle.frame.specs.Frame.{FrameM}
 use Rattle.carrier.specs.Carrying.{groups_of}
 use Rattle.carrier.specs.Fault.{carrier_refusal, plan_refusal}
 use Rattle.carrier.specs.Harm.{harmed}
-use Rattle.carrier.specs.Harming.{plan_of, planning, planned, next_harm}
+use Rattle.carrier.specs.Harming.{carrier_below, plan_of, planning, planned, next_harm}
 use Rattle.carrier.specs.Straight.{straight_waiting, straight_full}
 use Rattle.carrier.specs.declared.fault.CarrierFault.TheVariants.{Full, NoneWaiting}
 use Rattle.carrier.specs.declared.fault.PlanFault.{PlanFault}
@@ -24,7 +24,7 @@ pub record CarrierM : Type 0 where
 
 -- what a carrier holds
 abbrev pub carrying : Harming Straight → CarrierM
-carrying c = record { waiting = straight_waiting c.inner; plan = plan_of c }
+carrying c = record { waiting = straight_waiting (carrier_below c); plan = plan_of c }
 
 -- nothing waits, and nothing is planned
 abbrev pub unused : CarrierM

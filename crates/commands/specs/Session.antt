@@ -30,6 +30,10 @@ use Rattle.commands.specs.declared.session.Session.{Session}
 use Rattle.commands.specs.declared.trouble.Trouble.{Trouble}
 use Rattle.commands.specs.declared.trouble.Trouble.TheVariants as trouble
 
+-- the frame that it works on
+abbrev pub held : Session → Option FrameM
+held s = s.frame
+
 -- what its carrier holds
 abbrev pub carried : Session → Option CarrierM
 carried s = option_map carrying s.carrier
@@ -102,42 +106,42 @@ show_answer (Some f) = Ok (Characters f)
 
 -- a new carrier in place of the old one, for which there may be no memory
 abbrev pub CarrierSays : CarrierKind → Session → Result Answer Trouble → Session → Type 0
-CarrierSays kind old (Ok a) new = (a ≡ Carrier kind) × (carried new ≡ Some unused) × (new.frame ≡ old.frame)
+CarrierSays kind old (Ok a) new = (a ≡ Carrier kind) × (carried new ≡ Some unused) × (held new ≡ held old)
 CarrierSays kind old (Err t) new = (t ≡ trouble.Memory) × (new ≡ old)
 
 -- a command on the old session gives this answer and leaves the new one
 abbrev pub Ran : Command → Session → Result Answer Trouble → Session → Type 0
 Ran (command.Seal id load) old r new =
     (r ≡ Ok (seal_answer (load_fault load) id (length (load_bytes load))))
-    × (new.frame ≡ unless (load_fault load) (sealed id (load_bytes load)) old.frame)
+    × (held new ≡ unless (load_fault load) (sealed id (load_bytes load)) (held old))
     × (new.carrier ≡ old.carrier)
-Ran (command.Reply reply) old r new = (r ≡ Ok (Made reply)) × (new.frame ≡ Some (reply_frame reply)) × (new.carrier ≡ old.carrier)
+Ran (command.Reply reply) old r new = (r ≡ Ok (Made reply)) × (held new ≡ Some (reply_frame reply)) × (new.carrier ≡ old.carrier)
 Ran (command.Raw bytes marks) old r new =
     let fault = parts_fault (length (vec_items bytes)) (length (vec_items marks)) in
     (r ≡ raw_answer fault (length (vec_items bytes)) (length (vec_items marks)))
-    × (new.frame ≡ unless fault (parted (vec_items bytes) (vec_items marks)) old.frame)
+    × (held new ≡ unless fault (parted (vec_items bytes) (vec_items marks)) (held old))
     × (new.carrier ≡ old.carrier)
 Ran (command.Flip place mask) old r new =
-    (r ≡ on_frame old.frame (flip_answer place mask))
-    × (new.frame ≡ option_map (λ f. flipped f place mask) old.frame)
+    (r ≡ on_frame (held old) (flip_answer place mask))
+    × (held new ≡ option_map (λ f. flipped f place mask) (held old))
     × (new.carrier ≡ old.carrier)
 Ran (command.Mark c m) old r new =
-    (r ≡ on_frame old.frame (mark_answer c m))
-    × (new.frame ≡ option_map (λ f. marked f c m) old.frame)
+    (r ≡ on_frame (held old) (mark_answer c m))
+    × (held new ≡ option_map (λ f. marked f c m) (held old))
     × (new.carrier ≡ old.carrier)
-Ran command.Read old r new = (r ≡ on_frame old.frame (λ f. read_answer (reading f))) × (new ≡ old)
-Ran (command.Unpack size) old r new = UnpackSays old.frame size r × (new ≡ old)
-Ran command.Show old r new = (r ≡ show_answer old.frame) × (new ≡ old)
+Ran command.Read old r new = (r ≡ on_frame (held old) (λ f. read_answer (reading f))) × (new ≡ old)
+Ran (command.Unpack size) old r new = UnpackSays (held old) size r × (new ≡ old)
+Ran command.Show old r new = (r ≡ show_answer (held old)) × (new ≡ old)
 Ran (command.Carrier kind) old r new = CarrierSays kind old r new
 Ran (command.Plan harm) old r new =
     (r ≡ on_carrier (carried old) (plan_answer harm))
     × (carried new ≡ option_map (plan_after harm) (carried old))
-    × (new.frame ≡ old.frame)
+    × (held new ≡ held old)
 Ran command.Put old r new =
-    (r ≡ put_says old.frame (carried old))
-    × (carried new ≡ put_leaves old.frame (carried old))
-    × (new.frame ≡ old.frame)
+    (r ≡ put_says (held old) (carried old))
+    × (carried new ≡ put_leaves (held old) (carried old))
+    × (held new ≡ held old)
 Ran command.Take old r new =
     (r ≡ on_carrier (carried old) take_answer)
     × (carried new ≡ option_map take_after (carried old))
-    × (new.frame ≡ take_frame (carried old) old.frame)
+    × (held new ≡ take_frame (carried old) (held old))

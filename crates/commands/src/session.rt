@@ -1,6 +1,6 @@
 // The frame that a script works on, the carrier that it plays with, and its commands.
 ghost use Rattle.std.specs.Prelude.{◌≡◌, None};
-ghost use Rattle.commands.specs.Session.{carried, Ran};
+ghost use Rattle.commands.specs.Session.{held, carried, Ran};
 
 mod carrying;
 mod frames;
@@ -22,7 +22,7 @@ pub struct Session {
 
 impl Session {
     pub fn new() -> Session
-        ensures frame { result.frame ≡ None }
+        ensures frame { held result ≡ None }
         ensures carrier { carried result ≡ None }
     {
         Session {

@@ -1,5 +1,6 @@
 -- The cyclic checks of the link: a check over a width w and a polynomial p, and the link check.
 use Rattle.std.specs.Prelude.{◌≡◌, ℕ, zero, suc, ◌-◌, ◌*◌, ◌/◌, ◌%◌, ◌^◌, ◌<◌, if◌then◌else◌, List, fold, length, ◌==◌, bit_xor, slice_index, slice_set}
+use Rattle.crc.specs.declared.unit.UnitCheck.{UnitCheck}
 
 -- one bit: it is xored with the state's top bit, the state moves left by one within w bits, and where that xor was 1 the polynomial is xored in
 unfoldable pub bit_step : ℕ → ℕ → ℕ → ℕ → ℕ
@@ -25,3 +26,7 @@ link_check xs = run 16 0x8005 0 xs
 -- one byte put in place of another shows in the state: where the state stays the same, so does the byte
 abbrev pub OneByteShows : ℕ → ℕ → ℕ → List ℕ → Type 0
 OneByteShows w p s xs = (i y : ℕ) → i < length xs → y < 256 → run w p s (slice_set xs i y) ≡ run w p s xs → y ≡ slice_index xs i
+
+-- where the check of a unit stands
+abbrev pub state_of : UnitCheck → ℕ
+state_of c = c.state

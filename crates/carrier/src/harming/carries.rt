@@ -1,7 +1,7 @@
 // What a harming carrier does.
 ghost use Rattle.std.specs.Prelude.{◌≡◌};
 ghost use Rattle.carrier.specs.Carrying.{Taken};
-ghost use Rattle.carrier.specs.Harming.{plan_of, Handed};
+ghost use Rattle.carrier.specs.Harming.{carrier_below, plan_of, Handed};
 
 use crate::carrier::Carrier;
 use crate::fault::CarrierFault;
@@ -9,7 +9,7 @@ use crate::harming::Harming;
 use frame::frame::Frame;
 
 impl<C: Carrier> Carrier for Harming<C> {
-    ghost waiting = { λ s. C.Carrier.waiting s.inner };
+    ghost waiting = { λ s. C.Carrier.waiting (carrier_below s) };
 
     ghost full = { C.Carrier.full };
 
@@ -32,7 +32,7 @@ impl<C: Carrier> Carrier for Harming<C> {
     }
 
     fn take(&mut self) -> Option<Frame>
-        ensures oldest { Taken (λ s. C.Carrier.waiting s.inner) self.old result self.new }
+        ensures oldest { Taken (λ s. C.Carrier.waiting (carrier_below s)) self.old result self.new }
         ensures plan { plan_of self.new ≡ plan_of self.old }
     {
         self.inner.take()

@@ -1,7 +1,7 @@
 // The plan of a harming carrier.
 ghost use Rattle.std.specs.Prelude.{◌≡◌, true, [], drop, IfOk};
 ghost use Rattle.carrier.specs.Harm.{harms};
-ghost use Rattle.carrier.specs.Harming.{plan_of, planning, planned, next_harm};
+ghost use Rattle.carrier.specs.Harming.{carrier_below, plan_of, planning, planned, next_harm};
 
 use crate::fault::PlanFault;
 use crate::harm::Harm;
@@ -12,7 +12,7 @@ use std::alloc::{AllocError, Global};
 impl<C: Drop> Harming<C> {
     // Stands on a carrier, whatever waits in it, with an empty plan.
     pub fn new(heap: Global, inner: C) -> Result<Harming<C>, AllocError>
-        ensures { IfOk result (λ s. (s.inner ≡ inner) × (plan_of s ≡ [])) }
+        ensures { IfOk result (λ s. (carrier_below s ≡ inner) × (plan_of s ≡ [])) }
     {
         let plan = Queue::new(heap)?;
         Ok(Harming { inner, plan })
@@ -24,7 +24,7 @@ impl<C> Harming<C> {
     pub fn plan(&mut self, harm: Harm) -> Result<usize, PlanFault>
         ensures answer { result ≡ planning (plan_of self.old) harm }
         ensures after { plan_of self.new ≡ planned (plan_of self.old) harm }
-        ensures below { self.new.inner ≡ self.old.inner }
+        ensures below { carrier_below self.new ≡ carrier_below self.old }
     {
         if !harm.is_allowed() {
             return Err(PlanFault::Mask);
@@ -41,7 +41,7 @@ impl<C> Harming<C> {
         ensures next { result ≡ next_harm (plan_of self.old) }
         ensures allowed { harms result ≡ true }
         ensures used { plan_of self.new ≡ drop 1 (plan_of self.old) }
-        ensures below { self.new.inner ≡ self.old.inner }
+        ensures below { carrier_below self.new ≡ carrier_below self.old }
     {
         self.plan.pop().unwrap_or(Harm::Pass)
     }

@@ -2,7 +2,7 @@
 ghost use Rattle.std.specs.Prelude.{◌≡◌, IfOk};
 ghost use Rattle.std.specs.Option.{option_map};
 ghost use Rattle.commands.specs.Carrying.{carrying, unused, on_carrier, plan_answer, plan_after, put_says, put_leaves, take_answer, take_after, take_frame};
-ghost use Rattle.commands.specs.Session.{carried, CarrierSays};
+ghost use Rattle.commands.specs.Session.{held, carried, CarrierSays};
 
 use crate::answer::Answer;
 use crate::command::CarrierKind;
@@ -41,7 +41,7 @@ impl Session {
     pub(super) fn plan(&mut self, harm: Harm) -> Result<Answer, Trouble>
         ensures answer { result ≡ on_carrier (carried self.old) (plan_answer harm) }
         ensures after { carried self.new ≡ option_map (plan_after harm) (carried self.old) }
-        ensures kept { self.new.frame ≡ self.old.frame }
+        ensures kept { held self.new ≡ held self.old }
     {
         let carrier = self.carrier.as_mut().ok_or(Trouble::NoCarrier)?;
         match carrier.plan(harm) {
@@ -52,9 +52,9 @@ impl Session {
 
     // The frame is asked for first, then the carrier.
     pub(super) fn put(&mut self) -> Result<Answer, Trouble>
-        ensures answer { result ≡ put_says self.old.frame (carried self.old) }
-        ensures after { carried self.new ≡ put_leaves self.old.frame (carried self.old) }
-        ensures kept { self.new.frame ≡ self.old.frame }
+        ensures answer { result ≡ put_says (held self.old) (carried self.old) }
+        ensures after { carried self.new ≡ put_leaves (held self.old) (carried self.old) }
+        ensures kept { held self.new ≡ held self.old }
     {
         let frame = self.current()?;
         let carrier = self.carrier.as_mut().ok_or(Trouble::NoCarrier)?;
@@ -68,7 +68,7 @@ impl Session {
     pub(super) fn take(&mut self) -> Result<Answer, Trouble>
         ensures answer { result ≡ on_carrier (carried self.old) take_answer }
         ensures after { carried self.new ≡ option_map take_after (carried self.old) }
-        ensures frame { self.new.frame ≡ take_frame (carried self.old) self.old.frame }
+        ensures frame { held self.new ≡ take_frame (carried self.old) (held self.old) }
     {
         let carrier = self.carrier.as_mut().ok_or(Trouble::NoCarrier)?;
         let Some(taken) = carrier.take() else {

@@ -4,7 +4,7 @@ ghost use Rattle.std.specs.Option.{option_map};
 ghost use Rattle.frame.specs.Form.{sealed, reply_frame};
 ghost use Rattle.frame.specs.Frame.{parted, parts_fault, flipped, marked};
 ghost use Rattle.frame.specs.Reading.{reading};
-ghost use Rattle.commands.specs.Session.{unless, on_frame, load_fault, load_bytes, seal_answer, shape_trouble, raw_answer, flip_answer, mark_answer, read_answer, unpack_answer, UnpackSays, show_answer};
+ghost use Rattle.commands.specs.Session.{held, unless, on_frame, load_fault, load_bytes, seal_answer, shape_trouble, raw_answer, flip_answer, mark_answer, read_answer, unpack_answer, UnpackSays, show_answer};
 ghost use Rattle.commands.specs.declared.answer.Answer.TheVariants.{Made};
 ghost use Rattle.commands.specs.declared.trouble.Trouble.TheVariants.{NoFrame};
 
@@ -50,7 +50,7 @@ fn unpacked(res: Result<Content, UnpackFault>, buffer: Vec<u8>) -> Answer
 // apart, since they call, compare and answer other things.
 impl Session {
     pub(super) fn current(&self) -> Result<Frame, Trouble>
-        ensures { MatchResult result (λ f. self.now.frame ≡ Some f) (λ t. (self.now.frame ≡ None) × (t ≡ NoFrame)) }
+        ensures { MatchResult result (λ f. held self.now ≡ Some f) (λ t. (held self.now ≡ None) × (t ≡ NoFrame)) }
     {
         self.frame.ok_or(Trouble::NoFrame)
     }
@@ -58,7 +58,7 @@ impl Session {
     // A refused packet leaves the current frame as it was.
     pub(super) fn seal(&mut self, id: u8, load: &Load) -> Answer
         ensures answer { result ≡ seal_answer (load_fault load.now) id (length (load_bytes load.now)) }
-        ensures after { self.new.frame ≡ unless (load_fault load.now) (sealed id (load_bytes load.now)) self.old.frame }
+        ensures after { held self.new ≡ unless (load_fault load.now) (sealed id (load_bytes load.now)) (held self.old) }
         ensures kept { self.new.carrier ≡ self.old.carrier }
     {
         match load.packet() {
@@ -75,7 +75,7 @@ impl Session {
 
     pub(super) fn reply(&mut self, reply: Reply) -> Answer
         ensures answer { result ≡ Made reply }
-        ensures after { self.new.frame ≡ Some (reply_frame reply) }
+        ensures after { held self.new ≡ Some (reply_frame reply) }
         ensures kept { self.new.carrier ≡ self.old.carrier }
     {
         self.frame = Some(Frame::reply(reply));
@@ -84,7 +84,7 @@ impl Session {
 
     pub(super) fn raw(&mut self, bytes: &[u8], marks: &[Mark]) -> Result<Answer, Trouble>
         ensures answer { result ≡ raw_answer (parts_fault (length bytes.now) (length marks.now)) (length bytes.now) (length marks.now) }
-        ensures after { self.new.frame ≡ unless (parts_fault (length bytes.now) (length marks.now)) (parted bytes.now marks.now) self.old.frame }
+        ensures after { held self.new ≡ unless (parts_fault (length bytes.now) (length marks.now)) (parted bytes.now marks.now) (held self.old) }
         ensures kept { self.new.carrier ≡ self.old.carrier }
     {
         let frame = Frame::from_parts(bytes, marks).map_err(|fault| shape_trouble(
@@ -99,8 +99,8 @@ impl Session {
     }
 
     pub(super) fn flip(&mut self, place: usize, mask: u8) -> Result<Answer, Trouble>
-        ensures answer { result ≡ on_frame self.old.frame (flip_answer place mask) }
-        ensures after { self.new.frame ≡ option_map (λ f. flipped f place mask) self.old.frame }
+        ensures answer { result ≡ on_frame (held self.old) (flip_answer place mask) }
+        ensures after { held self.new ≡ option_map (λ f. flipped f place mask) (held self.old) }
         ensures kept { self.new.carrier ≡ self.old.carrier }
     {
         let frame = self.frame.as_mut().ok_or(Trouble::NoFrame)?;
@@ -113,8 +113,8 @@ impl Session {
     }
 
     pub(super) fn mark(&mut self, character: usize, mark: Mark) -> Result<Answer, Trouble>
-        ensures answer { result ≡ on_frame self.old.frame (mark_answer character mark) }
-        ensures after { self.new.frame ≡ option_map (λ f. marked f character mark) self.old.frame }
+        ensures answer { result ≡ on_frame (held self.old) (mark_answer character mark) }
+        ensures after { held self.new ≡ option_map (λ f. marked f character mark) (held self.old) }
         ensures kept { self.new.carrier ≡ self.old.carrier }
     {
         let frame = self.frame.as_mut().ok_or(Trouble::NoFrame)?;
@@ -127,7 +127,7 @@ impl Session {
     }
 
     pub(super) fn read(&self) -> Result<Answer, Trouble>
-        ensures { result ≡ on_frame self.now.frame (λ f. read_answer (reading f)) }
+        ensures { result ≡ on_frame (held self.now) (λ f. read_answer (reading f)) }
     {
         match self.current()?.read() {
             Ok(content) => Ok(Answer::Good(content)),
@@ -136,7 +136,7 @@ impl Session {
     }
 
     pub(super) fn unpack(&self, heap: Global, size: usize) -> Result<Answer, Trouble>
-        ensures { UnpackSays self.now.frame size result }
+        ensures { UnpackSays (held self.now) size result }
     {
         let frame = self.current()?;
         let mut buffer = vec![in heap; UNTOUCHED; size]?;
@@ -145,7 +145,7 @@ impl Session {
     }
 
     pub(super) fn show(&self) -> Result<Answer, Trouble>
-        ensures { result ≡ show_answer self.now.frame }
+        ensures { result ≡ show_answer (held self.now) }
     {
         Ok(Answer::Characters(self.current()?))
     }
