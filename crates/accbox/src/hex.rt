@@ -32,5 +32,5 @@ pub(crate) fn read_byte(word: &str) -> Option<u8>
 pub(crate) fn read_bytes(heap: Global, word: &str) -> Result<Option<Vec<u8>>, AllocError>
     ensures { IfOk result (λ o. option_map vec_items o ≡ hex_bytes word.now) }
 {
-    read::all(heap, word.as_bytes().chunks(2).map(pair))
+    read::all(heap, word.len() / 2, word.as_bytes().chunks(2).map(pair))
 }

@@ -25,5 +25,5 @@ pub(crate) fn read_mark(word: &str) -> Option<Mark>
 pub(crate) fn read_marks(heap: Global, word: &str) -> Result<Option<Vec<Mark>>, AllocError>
     ensures { IfOk result (λ o. option_map vec_items o ≡ all_marks word.now) }
 {
-    read::all(heap, word.bytes().map(digit))
+    read::all(heap, word.len(), word.bytes().map(digit))
 }
