@@ -1,9 +1,19 @@
 -- What a carrier may make of a frame that is put.
-use Rattle.std.specs.Prelude.{◌≡◌, ℕ, ◌/◌, Bool, if◌then◌else◌, List, [], ◌∷◌, ◌++◌, length, Some, None, Ok, Err, Option, Result}
+use Rattle.std.specs.Prelude.{◌≡◌, ℕ, ◌/◌, Bool, if◌then◌else◌, ◌&&◌, ◌==◌, List, [], ◌∷◌, ◌++◌, length, Some, None, Ok, Err, Option, Result}
+use Rattle.std.specs.List.{list_all}
 use Rattle.frame.specs.Frame.{FrameM, Grouped}
+use Rattle.frame.specs.Packet.{one_of_five}
 use Rattle.frame.specs.Reading.{Broken}
 use Rattle.carrier.specs.declared.fault.CarrierFault.{CarrierFault}
 use Rattle.carrier.specs.declared.fault.CarrierFault.TheVariants.{Full}
+
+-- whether a frame has one to five whole groups and a mark to every sixteen bytes
+abbrev pub is_frame : FrameM → Bool
+is_frame f = one_of_five (length f.bytes) && length f.marks == length f.bytes / 16
+
+-- whether each of them has
+abbrev pub all_frames : List FrameM → Bool
+all_frames fs = list_all is_frame fs
 
 -- the number of groups of a frame
 abbrev pub groups_of : FrameM → ℕ

@@ -1,6 +1,6 @@
 // What every carrier does with the frames that are put into it.
-ghost use Rattle.std.specs.Prelude.{◌≡◌, ℕ, Bool, false, List, [], MatchResult, OnOk};
-ghost use Rattle.frame.specs.Frame.{FrameM};
+ghost use Rattle.std.specs.Prelude.{◌≡◌, ℕ, Bool, false, List, [], MatchResult, OnOk, IfSome};
+ghost use Rattle.frame.specs.Frame.{FrameM, IsFrame};
 ghost use Rattle.carrier.specs.Carrying.{groups_of, putting, Added, Taken};
 
 use crate::fault::CarrierFault;
@@ -23,11 +23,13 @@ pub trait Carrier {
     fn put(&mut self, frame: &Frame) -> Result<(), CarrierFault>
         ensures answer { result ≡ putting (full (waiting self.old) (groups_of frame.now)) }
         ensures added { MatchResult result (λ _. Added (waiting self.old) frame.now (waiting self.new)) (λ _. self.new ≡ self.old) }
-        ensures exactly { OnOk result (adds self.old frame.now self.new) };
+        ensures exactly { OnOk result (adds self.old frame.now self.new) }
+        ensures shape { IsFrame frame.now };
 
     // The oldest frame, or none exactly when none waits.
     fn take(&mut self) -> Option<Frame>
-        ensures { Taken waiting self.old result self.new };
+        ensures oldest { Taken waiting self.old result self.new }
+        ensures shape { IfSome result IsFrame };
 
     // an empty carrier takes any frame
     ghost empty: { (groups : ℕ) → full [] groups ≡ false };

@@ -1,5 +1,6 @@
 // What a plan may do to a frame.
 ghost use Rattle.std.specs.Prelude.{◌≡◌, ◌<◌, true};
+ghost use Rattle.frame.specs.Frame.{IsFrame};
 ghost use Rattle.carrier.specs.Harm.{harmed, harms, Worse};
 
 use frame::frame::Frame;
@@ -27,7 +28,10 @@ impl Harm {
     pub fn apply(self, frame: &Frame) -> Option<Frame>
         ensures answer { result ≡ harmed self frame.now }
         ensures worse { harms self ≡ true → Worse frame.now result }
+        ensures shape { IsFrame frame.now }
     {
+        // Clauses learn the shape of a frame from a call alone, and two of the harms need none.
+        let _groups = frame.groups();
         match self {
             Harm::Pass => Some(*frame),
             Harm::Drop => None,

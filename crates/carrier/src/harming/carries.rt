@@ -1,5 +1,6 @@
 // What a harming carrier does.
-ghost use Rattle.std.specs.Prelude.{◌≡◌};
+ghost use Rattle.std.specs.Prelude.{◌≡◌, IfSome};
+ghost use Rattle.frame.specs.Frame.{IsFrame};
 ghost use Rattle.carrier.specs.Carrying.{Taken};
 ghost use Rattle.carrier.specs.Harming.{carrier_below, plan_of, Handed};
 
@@ -34,6 +35,7 @@ impl<C: Carrier> Carrier for Harming<C> {
     fn take(&mut self) -> Option<Frame>
         ensures oldest { Taken (λ s. C.Carrier.waiting (carrier_below s)) self.old result self.new }
         ensures plan { plan_of self.new ≡ plan_of self.old }
+        ensures shape { IfSome result IsFrame }
     {
         self.inner.take()
     }

@@ -1,5 +1,6 @@
 // What a straight carrier does.
 ghost use Rattle.std.specs.Prelude.{◌≡◌, refl, [], ◌∷◌, ◌++◌, IfOk, MatchResult};
+ghost use Rattle.frame.specs.Frame.{IsFrame};
 ghost use Rattle.carrier.specs.Carrying.{groups_of, putting};
 ghost use Rattle.carrier.specs.Straight.{straight_waiting, straight_full};
 
@@ -32,9 +33,11 @@ impl Carrier for Straight {
         self.queue.is_full()
     }
 
+    #[tactic(auto, using(crate::proofs::Shapes::frame_is))]
     fn put(&mut self, frame: &Frame) -> Result<(), CarrierFault>
         ensures answer { result ≡ putting (straight_full (straight_waiting self.old) (groups_of frame.now)) }
         ensures unharmed { MatchResult result (λ _. straight_waiting self.new ≡ straight_waiting self.old ++ frame.now ∷ []) (λ _. self.new ≡ self.old) }
+        ensures shape { IsFrame frame.now }
     {
         if self.is_full(frame.groups()) {
             return Err(CarrierFault::Full);
@@ -43,6 +46,7 @@ impl Carrier for Straight {
         Ok(())
     }
 
+    #[tactic(auto, using(crate::proofs::Shapes::is_shaped))]
     fn take(&mut self) -> Option<Frame> {
         self.queue.pop()
     }

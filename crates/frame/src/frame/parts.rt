@@ -28,7 +28,7 @@ impl Frame {
         })
     }
 
-    // Not by one function with `marks` and the bytes of a packet: a slice of each field is as plain. `shape` stands in four contracts, since clauses
+    // Not by one function with `marks` and the bytes of a packet: a slice of each field is as plain. Each call on a frame says its `shape`, since clauses
     // cannot see the invariant of a model.
     pub fn bytes(&self) -> &[u8]
         ensures bytes { result.now ≡ self.now.bytes }
@@ -51,7 +51,8 @@ impl Frame {
     }
 
     pub fn kind(&self) -> Kind
-        ensures { result ≡ kind_of self.now }
+        ensures kind { result ≡ kind_of self.now }
+        ensures shape { IsFrame self.now }
     {
         if self.marks[0] == Mark::Control && self.bytes[0] == LEAD {
             Kind::Link
@@ -65,6 +66,7 @@ impl Frame {
     pub fn flip(&mut self, place: usize, mask: u8)
         ensures after { self.new ≡ flipped self.old place mask }
         ensures breaks { Good self.old → place < length self.old.bytes → 0 < mask → Broken self.new }
+        ensures shape { IsFrame self.old }
     {
         if place < 128 * self.groups {
             self.bytes[place] ^= mask;
@@ -73,7 +75,8 @@ impl Frame {
 
     // Puts another mark on a character; one outside the frame leaves it as it is. The two stay apart, as in `flip`.
     pub fn set_mark(&mut self, character: usize, mark: Mark)
-        ensures { self.new ≡ marked self.old character mark }
+        ensures after { self.new ≡ marked self.old character mark }
+        ensures shape { IsFrame self.old }
     {
         if character < 8 * self.groups {
             self.marks[character] = mark;

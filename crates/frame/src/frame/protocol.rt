@@ -2,6 +2,7 @@
 ghost use Rattle.std.specs.Prelude.{◌≡◌, ◌-◌, ◌≤◌, ◌++◌, ◌==◌, ◌<◌, not, length, take, replicate, position, IfSome, Ok};
 ghost use Rattle.std.specs.List.{zip};
 ghost use Rattle.frame.specs.Form.{protocol_allows, sealed};
+ghost use Rattle.frame.specs.Packet.{IsPacket};
 ghost use Rattle.frame.specs.Reading.{reading, reading_as, units_checked};
 ghost use Rattle.frame.specs.Unpacking.{Unpacks};
 ghost use Rattle.frame.specs.declared.frame.Kind.TheVariants.{Protocol as ProtocolKind};
@@ -53,6 +54,7 @@ impl Frame {
         ensures made { result ≡ sealed id packet.now }
         ensures reads { reading result ≡ Ok (PacketContent id (length packet.now)) }
         ensures unpacks { Unpacks result id packet.now }
+        ensures packet { IsPacket packet.now }
     {
         let size = packet.bytes().len();
         let mut room = in_room(0, packet.bytes());

@@ -1,5 +1,6 @@
 // Reading a frame, and unpacking it into a host's buffer.
 ghost use Rattle.std.specs.Prelude.{◌≡◌, length};
+ghost use Rattle.frame.specs.Frame.{IsFrame};
 ghost use Rattle.frame.specs.Reading.{reading, Says};
 ghost use Rattle.frame.specs.Unpacking.{copying, copied_into, unpacking, unpacked_into};
 
@@ -13,6 +14,7 @@ impl Frame {
     pub fn read(&self) -> Result<Content, FrameFault>
         ensures answer { result ≡ reading self.now }
         ensures says { Says self.now result }
+        ensures shape { IsFrame self.now }
     {
         self.check_sync()?;
         // A match, as in `Kind::allows`: the kind is known only once a frame is there.
@@ -26,6 +28,7 @@ impl Frame {
     pub fn copy_packet(&self, buffer: &mut [u8]) -> Result<usize, HostFault>
         ensures answer { result ≡ copying self.now (length buffer.old) }
         ensures after { buffer.new ≡ copied_into self.now buffer.old }
+        ensures shape { IsFrame self.now }
     {
         let bytes = self.bytes();
         let size = bytes.len();
@@ -42,6 +45,7 @@ impl Frame {
     pub fn unpack(&self, buffer: &mut [u8]) -> Result<Content, UnpackFault>
         ensures answer { result ≡ unpacking self.now (length buffer.old) }
         ensures after { buffer.new ≡ unpacked_into self.now buffer.old }
+        ensures shape { IsFrame self.now }
     {
         let content = self.read()?;
         if let Content::Packet { .. } = content {

@@ -12,10 +12,12 @@ returns-then-place-self c =
     let m = c.args.mask in
     let inside = c.if-place-self.true in
     let after = view_flipped _ _ _ r k m inside ∙ ap (λ f. flipped f k m) c.self.view_is in
+    let shape = subst (λ f. Grouped f c.self.inside.groups) c.self.view_is r.frame in
     record {
       after = after;
       breaks = λ good in' some.
           subst Broken (sym after)
-          (flip_breaks c.args.self.now c.self.inside.groups (subst (λ f. Grouped f c.self.inside.groups) c.self.view_is r.frame) k m in'
+          (flip_breaks c.args.self.now c.self.inside.groups shape k m in'
           (subst (λ b. b < 256) (view_byte _ _ _ r k inside ∙ ap (λ f. byte_at f k) c.self.view_is) (search rules)) some (search rules) good);
+      shape = (c.self.inside.groups, shape);
     }

@@ -11,18 +11,18 @@ returns-in_err-check_sync c =
     let g = c.check_sync.ensures.shape in
     let p = err_from_is_err_and c.from_residual.result c.from_residual.ensures.1 in
     let answer : c.from_residual.result ≡ reading f = rw (p.1, p.2) (sync_answer f _ c.in_err-check_sync.ensures.checked) in
-    record { answer = answer; says = reading_says f g.0 g.1 c.from_residual.result answer }
+    record { answer = answer; says = reading_says f g.0 g.1 c.from_residual.result answer; shape = g }
 
 pub returns-in-Protocol : goal.returns-in-Protocol
 returns-in-Protocol c =
     let f = c.args.self.now in
     let g = c.check_sync.ensures.shape in
-    let answer = c.read_protocol.ensures ∙ read_answer f Protocol c.in_ok-check_sync.ensures.checked c.in-Protocol.ensures in
-    record { answer = answer; says = reading_says f g.0 g.1 c.read_protocol.result answer }
+    let answer = c.read_protocol.ensures ∙ read_answer f Protocol c.in_ok-check_sync.ensures.checked c.in-Protocol.ensures.kind in
+    record { answer = answer; says = reading_says f g.0 g.1 c.read_protocol.result answer; shape = g }
 
 pub returns-in-Link : goal.returns-in-Link
 returns-in-Link c =
     let f = c.args.self.now in
     let g = c.check_sync.ensures.shape in
-    let answer = c.read_link.ensures ∙ read_answer f Link c.in_ok-check_sync.ensures.checked c.in-Link.ensures in
-    record { answer = answer; says = reading_says f g.0 g.1 c.read_link.result answer }
+    let answer = c.read_link.ensures ∙ read_answer f Link c.in_ok-check_sync.ensures.checked c.in-Link.ensures.kind in
+    record { answer = answer; says = reading_says f g.0 g.1 c.read_link.result answer; shape = g }

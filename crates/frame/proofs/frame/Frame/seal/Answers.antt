@@ -23,4 +23,5 @@ returns c =
       made = made;
       reads = ap reading made ∙ reads_sealed id p is;
       unpacks = subst (λ f. Unpacks f id p) (sym made) (unpacks_sealed id p is);
+      packet = is;
     }
