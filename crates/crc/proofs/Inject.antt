@@ -1,5 +1,5 @@
 -- No two states, and no two bytes, step to the same state, at every width suc v of at least eight and every odd polynomial.
-use Rattle.std.proofs.Common.{◌≡◌, ℕ, zero, suc, ◌+◌, ◌-◌, ◌*◌, ◌/◌, ◌%◌, ◌^◌, ◌<◌, cond, eqb, List, [], ◌∷◌, length, get_or, set, sym, ap, ◌∙◌, subst, ap₂, le_of_suc-le-suc, not-suc-le-zero, mod-eq_of_lt, div-add-mod', one-add, arith, pow_pos}
+use Rattle.std.proofs.Common.{◌≡◌, ℕ, zero, suc, ◌+◌, ◌-◌, ◌*◌, ◌/◌, ◌%◌, ◌^◌, ◌<◌, cond, eqb, List, [], ◌∷◌, length, get_or, set, sym, refl, ap, ◌∙◌, subst, ap₂, le_of_suc-le-suc, not-suc-le-zero, mod-eq_of_lt, div-add-mod', mul-one, one-add, arith, pow_pos}
 use native.Mathlib.Nat.{mul-mod_left}
 use lib.Bits.{bit_xor, xor_zero_r, xor_comm, xor_assoc, xor_self, xor_mod, xor_lt}
 use lib.Pow.{shl-shr}
@@ -96,6 +96,13 @@ module _ (v p : ℕ) (odd : p % 2 ≡ 1) (fits : p < 2 ^ suc v) where
     one_byte s (x ∷ xs) zero y hs hi hx hy e =
         byte_inj_byte s y x hs hy hx (run_inj (byte_step (suc v) p s y) (byte_step (suc v) p s x) xs (byte_lt s y hs) (byte_lt s x hs) e)
     one_byte s (x ∷ xs) (suc i) y hs hi hx hy e = one_byte (byte_step (suc v) p s x) xs i y (byte_lt s x hs) (le_of_suc-le-suc hi) hx hy e
+
+-- at width 8 the byte may as well be xored into the state first
+pub byte_in : (p s b : ℕ) → p % 2 ≡ 1 → p < 256 → b < 256 → byte_step 8 p s b ≡ byte_step 8 p (bit_xor s b) 0
+byte_in p s b odd fits h =
+    byte_turns 7 p odd fits 0 refl s b
+    ∙ ap (turns 8 p 8) (ap (bit_xor s) (mul-one (b % 256) ∙ mod-eq_of_lt h) ∙ sym (xor_zero_r (bit_xor s b)))
+    ∙ sym (byte_turns 7 p odd fits 0 refl (bit_xor s b) 0)
 
 pub run_lt : (v p : ℕ) → p % 2 ≡ 1 → p < 2 ^ suc v → (s : ℕ) (xs : List ℕ) → s < 2 ^ suc v → run (suc v) p s xs < 2 ^ suc v
 run_lt v p odd fits s [] h = h

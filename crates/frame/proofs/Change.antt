@@ -109,6 +109,13 @@ module _ (xs : List ℕ) (i y : ℕ) (whole : length xs % 128 ≡ 0) (big : 14 <
       (subst (λ v. v < 256) (sym (u.1 ∙ mid)) hx) hy (ap (run 8 0xA1 0) (sym moved) ∙ e)
       ∙ u.1 ∙ mid
 
+  pub unseen : (j : ℕ) → j < 8 → (j ≡ i / 16 % 8 → ⊥) → 0 < i → i + 14 < length xs → unit_check (set xs i y) j ≡ unit_check xs j
+  unfolding unit_check
+  unseen j lt ne p h =
+      ap (run 8 0xA1 0)
+      (ap₂ (λ (l : List ℕ) m. unit_bytes l j (m / 128)) (counted_set xs i y big p h) (length-set xs i y)
+      ∙ unit_out (counted xs) i y j (length xs / 128) lt (inl ne))
+
   pub uncounted : (j : ℕ) → (i ≡ 0) ⊎ (length xs ≤ i + 14) → unit_check (set xs i y) j ≡ unit_check xs j
   unfolding unit_check
   uncounted j o =

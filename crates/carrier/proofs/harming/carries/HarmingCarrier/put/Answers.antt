@@ -10,5 +10,5 @@ returns-clause-added g c =
     let f = c.args.frame.now in
     added_here waiting full old c.next_harm.new.self.inner c.put.new.self c.next_harm.ensures.below f c.in-Some.handed
     (c.in-Some.ensures.worse c.next_harm.ensures.allowed)
-    (ap (full (waiting old)) (sym (counted f c.groups.result c.groups.ensures)) ∙ sym c.is_full.ensures ∙ c.if-is_full.false)
+    (ap (full (waiting old)) (sym (counted f c.groups.result (sym c.groups.ensures.bytes_long))) ∙ sym c.is_full.ensures ∙ c.if-is_full.false)
     c.put.result c.put.ensures.answer _ c.put.ensures.added
