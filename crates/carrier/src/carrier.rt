@@ -23,8 +23,7 @@ pub trait Carrier {
     fn put(&mut self, frame: &Frame) -> Result<(), CarrierFault>
         ensures answer { result ≡ putting (full (waiting self.old) (groups_of frame.now)) }
         ensures added { MatchResult result (λ _. Added (waiting self.old) frame.now (waiting self.new)) (λ _. self.new ≡ self.old) }
-        ensures exactly { OnOk result (adds self.old frame.now self.new) }
-        ensures shape { IsFrame frame.now };
+        ensures exactly { OnOk result (adds self.old frame.now self.new) };
 
     // The oldest frame, or none exactly when none waits.
     fn take(&mut self) -> Option<Frame>

@@ -1,10 +1,10 @@
 -- What each command answers, and what it makes of a session: of the frame that it works on and of its carrier.
-use Rattle.std.specs.Prelude.{◌≡◌, ℕ, ◌/◌, if◌then◌else◌, List, length, replicate, Some, None, Ok, Err, vec_items, Option, Result, Vec, nat_lt}
+use Rattle.std.specs.Prelude.{◌≡◌, ℕ, ◌/◌, if◌then◌else◌, List, length, replicate, IfSome, Some, None, Ok, Err, vec_items, Option, Result, Vec, nat_lt}
 use Rattle.std.specs.Option.{option_map}
 use Rattle.std.specs.declared.alloc.Global.{Global}
 use Rattle.terms.specs.Fault.{packet_refusal, frame_refusal, unpack_refusal}
 use Rattle.frame.specs.Form.{sealed, reply_frame}
-use Rattle.frame.specs.Frame.{FrameM, parted, parts_fault, flipped, marked}
+use Rattle.frame.specs.Frame.{FrameM, IsFrame, parted, parts_fault, flipped, marked}
 use Rattle.frame.specs.Packet.{one_of_five, packet_fault}
 use Rattle.frame.specs.Reserved.{cleared}
 use Rattle.frame.specs.Reading.{reading}
@@ -131,7 +131,7 @@ Ran (command.Mark c m) old r new =
     × (new.carrier ≡ old.carrier)
 Ran command.Read old r new = (r ≡ on_frame (held old) (λ f. read_answer (reading f))) × (new ≡ old)
 Ran (command.Unpack size) old r new = UnpackSays (held old) size r × (new ≡ old)
-Ran command.Show old r new = (r ≡ show_answer (held old)) × (new ≡ old)
+Ran command.Show old r new = (r ≡ show_answer (held old)) × (new ≡ old) × IfSome (held old) IsFrame
 Ran (command.Carrier kind) old r new = CarrierSays kind old r new
 Ran (command.Plan harm) old r new =
     (r ≡ on_carrier (carried old) (plan_answer harm))

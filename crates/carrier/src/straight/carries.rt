@@ -1,6 +1,5 @@
 // What a straight carrier does.
 ghost use Rattle.std.specs.Prelude.{◌≡◌, refl, [], ◌∷◌, ◌++◌, IfOk, MatchResult};
-ghost use Rattle.frame.specs.Frame.{IsFrame};
 ghost use Rattle.carrier.specs.Carrying.{groups_of, putting};
 ghost use Rattle.carrier.specs.Straight.{straight_waiting, straight_full};
 
@@ -37,7 +36,6 @@ impl Carrier for Straight {
     fn put(&mut self, frame: &Frame) -> Result<(), CarrierFault>
         ensures answer { result ≡ putting (straight_full (straight_waiting self.old) (groups_of frame.now)) }
         ensures unharmed { MatchResult result (λ _. straight_waiting self.new ≡ straight_waiting self.old ++ frame.now ∷ []) (λ _. self.new ≡ self.old) }
-        ensures shape { IsFrame frame.now }
     {
         if self.is_full(frame.groups()) {
             return Err(CarrierFault::Full);

@@ -1,8 +1,8 @@
 // The commands on the current frame.
-ghost use Rattle.std.specs.Prelude.{◌≡◌, length, Some, None, MatchResult};
+ghost use Rattle.std.specs.Prelude.{◌≡◌, length, Some, None, MatchResult, IfSome};
 ghost use Rattle.std.specs.Option.{option_map};
 ghost use Rattle.frame.specs.Form.{sealed, reply_frame};
-ghost use Rattle.frame.specs.Frame.{parted, parts_fault, flipped, marked};
+ghost use Rattle.frame.specs.Frame.{parted, parts_fault, flipped, marked, IsFrame};
 ghost use Rattle.frame.specs.Reading.{reading};
 ghost use Rattle.commands.specs.Session.{held, unless, on_frame, load_fault, load_bytes, seal_answer, shape_trouble, raw_answer, flip_answer, mark_answer, read_answer, unpack_answer, UnpackSays, show_answer};
 ghost use Rattle.commands.specs.declared.answer.Answer.TheVariants.{Made};
@@ -145,8 +145,12 @@ impl Session {
     }
 
     pub(super) fn show(&self) -> Result<Answer, Trouble>
-        ensures { result ≡ show_answer (held self.now) }
+        ensures answer { result ≡ show_answer (held self.now) }
+        ensures shape { IfSome (held self.now) IsFrame }
     {
-        Ok(Answer::Characters(self.current()?))
+        let frame = self.current()?;
+        // Clauses learn the shape of a frame from a call alone.
+        let _groups = frame.groups();
+        Ok(Answer::Characters(frame))
     }
 }
